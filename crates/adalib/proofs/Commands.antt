@@ -46,7 +46,7 @@ as_they_were rows = go (has_row tick_id rows) (has_row file_id rows) refl refl
     go false true e f = rw (e, f) refl
     go false false e f = rw (e, f) refl
 
--- what a parse without a fault takes
+-- what a parse without an error takes
 pub record Given (words : List Text) (number name : Option Text) : Type 0 where
   pub no_fault : fault_of app words ≡ []
   pub tick_is : first_of tick_id (matches_of app words) ≡ number
@@ -95,7 +95,7 @@ pub command_is : (plain flagged one two : Command) (a b : Arg) → app_of plain 
 command_is plain flagged one two a b new flag adds_a adds_b tick file a_local b_local =
     adds_b.shape b_local ∙ ap₂ with_rule (adds_a.shape a_local ∙ ap₂ with_rule (ap app_of_fields flag ∙ ap (on_top (λ s. record s { disable_help_flag = true })) new) tick) file
 
--- where the words are written as they should be, only memory can be wanting
+-- if the words are written as they should be, only memory can be refused
 pub wants_memory : (command : Command) (words : List Text) (e : Error) → app_of command ≡ app
     → (is_simple_and_free (app_of command) ≡ true → HasKind (fault_of (app_of command) words) e)
     → (number name : Option Text) → Written (drop 1 words) number name → kind_of e ≡ OutOfMemory

@@ -23,7 +23,7 @@ both_empty (k ∷ ks) b e = cc
 abbrev pub end_of : Walk → List Text → Walk
 end_of w words = fold (walked rules []) w words
 
--- the first word is no fault, and none is in the others
+-- the first word is no error, and none is in the others
 parts : (w : Walk) (word : Text) (words : List Text) → walk_fault shape [] w (word ∷ words) ≡ []
     → (turn_fault shape [] w word ≡ []) × (walk_fault shape [] (walked rules [] w word) words ≡ [])
 unfolding walk_fault
@@ -44,7 +44,7 @@ first_utf8 word words h = All-get_or IsUtf8 (word ∷ words) 0 [] (omega arith) 
 rest_utf8 : (word : Text) (words : List Text) → All IsUtf8 (word ∷ words) → All IsUtf8 words
 rest_utf8 word words h = All-drop IsUtf8 1 (word ∷ words) h
 
--- ---- walks that come to a fault
+-- ---- walks that come to an error
 
 next_doomed : (w : Walk) (word : Text) → Doomed w → IsUtf8 word → turn_fault shape [] w word ≡ [] → Doomed (walked rules [] w word)
 unfolding walked

@@ -74,7 +74,7 @@ first_kept id (x ∷ rows) r other = go (bytes_eq x.id id) refl (first_kept id r
     go true e rest = rw e refl
     go false e rest = rw e rest
 
--- where there is no row of the name, one more stands at the end
+-- if there is no row with the name, one more is at the end
 pub row_added : (id : Text) (rows : List Row) (value : Text) → has_row id rows ≡ false
     → with_values id (reading_by tick_rule) CommandLine (value ∷ []) (without id rows) ≡ rows ++ row id value ∷ []
 row_added id [] value none = refl
@@ -125,7 +125,7 @@ with_file rows value tick h = record {
     or_false true = refl
     or_false false = refl
 
--- ---- where the walk stands
+-- ---- the place of the walk
 
 abbrev pub held : List Row → Option (Text × List Text) → Held
 held rows pending = record { rows = rows; pending = pending; skip = 0 }
@@ -174,7 +174,7 @@ file_pending rows value tick h = record {
   no_fault = rw h.has_file refl;
 }
 
--- ---- the walk over one word, where no option waits
+-- ---- the walk over one word, if no option waits
 
 pub past_hyphens : (rows : List Row) (pending : Option (Text × List Text)) (file : Option Text)
     → (walked rules [] (free_walk rows pending file false) two_hyphens ≡ free_walk rows pending file true)
@@ -240,7 +240,7 @@ pub last_name_again : (rows : List Row) (pending : Option (Text × List Text)) (
 unfolding walked
 last_name_again rows pending file word none = cc
 
--- ---- words that are refused wherever the walk stands
+-- ---- words that are refused wherever the walk is
 
 abbrev pub at : Held → Waiting → ℕ → Walk
 at h waiting position = record { held = h; waiting = waiting; position = position; is_trailing = false; stopped = None }
@@ -280,7 +280,7 @@ short_option rows pending positional position first rest utf8 other none =
     let e = short_fault (first ∷ rest) (spelled first rest utf8).0 (spelled first rest utf8).1 rows pending (spelled first rest utf8).2 (length rest) refl in
     let bad = rw (other, other, e) at none in cc
 
--- ---- the walk where --tick waits for its number
+-- ---- the walk if --tick waits for its number
 
 pub waits_on : (rows : List Row) (file : Option Text)
     → walked rules [] (waiting_walk rows file false) two_hyphens ≡ waiting_walk rows file true
@@ -304,7 +304,7 @@ pub past_number : (rows : List Row) (file : Option Text) (word : Text)
 unfolding walked
 past_number rows file word a b c = rw (a, b, c) (refl, refl)
 
--- ---- walks that come to a fault, whatever words are left
+-- ---- walks that come to an error, whatever words are left
 
 -- `--tick` for the second time, or without its number
 pub data Doomed : Walk → Type 0 where

@@ -21,7 +21,7 @@ pub data Kind : Text → Type 0 where
 equal : (a b : ℕ) → (a == b) ≡ true → a ≡ b
 equal a b e = grind (arith, nat_tests)
 
--- a text without `=`, or what stands before the first and after it
+-- a word without `=`, or what comes before the first and after it
 cut : (text : Text) → ((has_byte 61 text ≡ false) × (before_first (λ x. x == 61) text ≡ text))
     ⊎ ((has_byte 61 text ≡ true) × (text ≡ before_first (λ x. x == 61) text ++ 61 ∷ after_first (λ x. x == 61) text))
 cut [] = inl (refl, refl)

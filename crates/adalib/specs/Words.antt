@@ -1,4 +1,4 @@
--- What the words of the command line ask for.
+-- The options that the words of the command line give.
 use Rattle.std.specs.Prelude.{◌≡◌, ℕ, ◌==◌, Bool, true, not, List, [], ◌∷◌, ◌++◌, codes, Option, Some, None}
 use Rattle.adalib.specs.Tick.{tick_of}
 
@@ -11,13 +11,13 @@ two_hyphens = codes "--"
 abbrev pub tick_word : Word
 tick_word = codes "--tick"
 
--- the word is no option: it doesn't begin with a hyphen (45), or is one hyphen alone
+-- the word is no option: it doesn't begin with a hyphen (45), or is only one hyphen
 abbrev pub is_plain : Word → Bool
 is_plain [] = true
 is_plain (first ∷ []) = true
 is_plain (first ∷ second ∷ rest) = not (first == 45)
 
--- the words are `[--tick N] [FILE]`, in either order: the word that stands for N, and the file's name
+-- the words are `[--tick N] [FILE]`, in either order: the word at N, and the file's name
 pub data Written : List Word → Option Word → Option Word → Type 0 where
   nothing : Written [] None None
   -- `--tick N`
@@ -33,11 +33,11 @@ pub data Written : List Word → Option Word → Option Word → Type 0 where
   ended : Written (two_hyphens ∷ []) None None
   named_last : (name : Word) → Written (two_hyphens ∷ name ∷ []) None (Some name)
 
--- the tick that the word N tells, and 100 where there is none
+-- the tick that the word N gives, and 100 if there is none
 abbrev pub tick_told : Option Word → Option ℕ
 tick_told None = Some 100
 tick_told (Some number) = tick_of number
 
--- the words ask for this tick and this file
+-- the words give this tick and this file
 abbrev pub AsksFor : List Word → ℕ → Option Word → Type 0
 AsksFor words tick file = (number : Option Word) × Written words number file × (tick_told number ≡ Some tick)

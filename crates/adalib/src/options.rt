@@ -11,12 +11,13 @@ use clap::{Arg, ArgAction, Command};
 use std::alloc::{AllocError, Global};
 use thiserror::Error;
 
-/// Instructions between two ticks of the clock, where the words give no number.
+/// Instructions between two ticks of the clock, if the command line gives no number.
 const DEFAULT_TICK: u32 = 100;
 
+/// The greatest number of instructions between two ticks.
 pub const MAX_TICK: u32 = 10_000;
 
-/// Why the words are refused.
+/// Why the words of the command line are refused.
 #[derive(Clone, Copy, Debug, PartialEq, Eq, Error)]
 pub enum UsageError {
     #[error("the words are of another form")]
@@ -44,22 +45,22 @@ impl From<clap::Error> for UsageError {
     }
 }
 
-/// What the words ask for.
+/// The options on the command line.
 #[derive(Drop)]
 pub struct Options<'a> {
-    /// How many instructions a run does between two ticks of its clock.
+    /// The number of instructions between two ticks of a run's clock.
     pub tick: u32,
-    /// Where the commands come from: the standard input where it isn't told.
+    /// The file of the commands; none for the standard input.
     pub file: Option<&'a str>,
 }
 
 impl<'a> Options<'a> {
-    /// Reads `[--tick N] [FILE]`, the program's own word in front. `--tick=N` is `--tick N`, words after `--` are no
-    /// options, and `-` is a file's name.
+    /// Parses `[--tick N] [FILE]`, after the program's own word. `--tick=N` is `--tick N`, words after `--` are no options, and `-` is a file's
+    /// name.
     ///
     /// # Errors
-    /// [`UsageError::Usage`] for words of another form: a `--tick` without a number of 1 to 10000, a second `--tick`
-    /// or file, or another word that begins with `-`. [`UsageError::OutOfMemory`] where memory is refused.
+    /// [`UsageError::Usage`] for words of another form: a `--tick` without a number of 1 to 10000, a second `--tick` or file, or another word that
+    /// begins with `-`. [`UsageError::OutOfMemory`] if memory is refused.
     pub fn of(alloc: Global, words: &'a [String]) -> Result<Options<'a>, UsageError>
         ensures range { IfOk result (λ options. (1 ≤ options.tick) × (options.tick ≤ MAX_TICK)) }
         ensures taken { IfOk result (λ options. AsksFor (drop 1 (map string_bytes words.now)) options.tick (option_map (λ name. name.now) options.file)) }
@@ -80,7 +81,7 @@ impl<'a> Options<'a> {
     }
 }
 
-// The tick that the word tells, and the default one where there is no word.
+// The tick that the word gives, or the default if there is no word.
 fn told_tick(word: Option<&str>) -> Option<u32>
     ensures value { MatchOption word.entry (result ≡ Some 100) (λ told. result ≡ tick_of told.now) }
     ensures range { IfSome result (λ tick. (1 ≤ tick) × (tick ≤ MAX_TICK)) }
@@ -91,7 +92,7 @@ fn told_tick(word: Option<&str>) -> Option<u32>
     }
 }
 
-// The number in the word, where it is 1 to 10000. Digits alone: `parse` would take a sign.
+// The number in the word, if it is 1 to 10000. Only digits are allowed: `parse` would accept a sign.
 fn tick_of(word: &str) -> Option<u32>
     ensures value { result ≡ tick_of word.now }
     ensures range { IfSome result (λ tick. (1 ≤ tick) × (tick ≤ MAX_TICK)) }

@@ -11,14 +11,14 @@ use al_check::ada_check;
 use al_session::{Device, Ended, Sink, Source, session};
 use std::alloc::Global;
 
-/// Serves a session, from a library with no file.
+/// Serves a session, from an empty library.
 /// - `served`: what is written is the replies of the plain session to what is read, in which each build compiles all files from nothing.
 /// - `read`, `write`: a device that fails leaves a prefix of them.
-/// - `refused`: without memory for the library nothing is read and nothing is written.
+/// - `refused`: if memory for the library is refused, nothing is read and nothing is written.
 ///
 /// # Errors
 ///
-/// `NoMemory` where memory for the library was wanted and not given.
+/// `NoMemory` if memory for the library is refused.
 pub fn serve_ada<S: Source, K: Sink>(
     alloc: Global,
     reader: &mut S,

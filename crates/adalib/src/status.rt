@@ -9,9 +9,9 @@ use std::process::ExitCode;
 /// How the program ended.
 #[derive(Drop)]
 pub enum Outcome {
-    /// A session was served: to its end, to a text that isn't there as announced, or to the failure of a device.
+    /// A session was served: to its end, to a put whose bytes aren't there as announced, or to the failure of a device.
     Served(Result<Ended, Device>),
-    /// The words of the command line are of another form.
+    /// The words of the command line have another form.
     Usage,
     /// The file can't be opened, or memory is refused outside the session.
     Failed,

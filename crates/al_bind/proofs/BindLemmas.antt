@@ -1,4 +1,4 @@
--- The order of the nodes, and the lines of a cycle, as they are told in items.
+-- The order of the nodes, and the lines of a cycle, in terms of items.
 use Rattle.std.proofs.Common.{◌≡◌, inl, inr, ℕ, ◌<◌, List, [], ◌∷◌, length, get_or, replicate, refl, subst, ◌∙◌, arith}
 use Rattle.std.specs.List.{All, Contains, fold}
 use Rattle.std.proofs.lemmas.List.{get_or_default, length-replicate}

@@ -32,7 +32,7 @@ module _ (g h : List (List ℕ)) (same : (a b : ℕ) → Step g a b ↔ Step h a
     goes_on = λ i l. least_same (λ b. Step g (get_or walk i 0) b × IsStuck g b) (λ b. Step h (get_or walk i 0) b × IsStuck h b) (next_same (get_or walk i 0)) (get_or walk (i + 1) 0) (is.goes_on i l);
   }
 
-  -- a cycle goes by the steps
+  -- a cycle has these steps
   pub cycle_same : (cycle : List ℕ) → IsCycle g cycle → IsCycle h cycle
   cycle_same cycle is = record { front = is.front; some = is.some; distinct = is.distinct; walk = walk_same _ is.walk }
 

@@ -22,7 +22,7 @@ module _ (lib : Library) (keys : List Key) (W : Key → Reason → Key → Type 
   pub item_none : (old : List Edge) → ((end : End) → IsEnd lib keys key end → ⊥) → Adds old old (TiesFrom lib keys W key)
   item_none old none = adds_none old (TiesFrom lib keys W key) (λ t from. none from.end from.is_end)
 
-  -- a part wants it
+  -- a part requires it
   abbrev ByPart : Reason → Key → Type 0
   ByPart r y = (p : Key) × IsPartOf lib key p × W p r y
 
@@ -43,7 +43,7 @@ module _ (lib : Library) (keys : List Key) (W : Key → Reason → Key → Type 
         )))
         (λ t. ((λ by. record { end = x; is_end = is_end; edges = by }), from_here t))
 
--- what stands at one place is the same
+-- what is at one place is the same
 pub same_at : (ks : List Key) (a b : Key) (i : ℕ) → IsAt ks a i → IsAt ks b i → a ≡ b
 same_at ks a b i at too = sym at.1 ∙ get_or_default ks i a b at.0 ∙ too.1
 

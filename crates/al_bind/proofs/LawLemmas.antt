@@ -32,7 +32,7 @@ nodes_are_nodes lib (name, Sub) item = absurd (item refl)
 abbrev pub IsWhole : Library → List ℕ → Key → Type 0
 IsWhole lib main x = IsItem lib main x × IsItem lib main (node_of lib x)
 
--- where a needed item's node stands
+-- the place of a needed item's node
 node_place : (lib : Library) (main : List ℕ) (keys : List Key) → ListsUnits lib keys (Needed lib main) → (x : Key) → IsWhole lib main x → Contains (nodes_among lib keys) (node_of lib x)
 node_place lib main keys lists x (item, node) =
     into_filter (is_node lib) keys (node_of lib x) ((lists.all (node_of lib x)).1 (node.0, node.1)) (nodes_are_nodes lib x item.2)
@@ -49,7 +49,7 @@ of_its_node lib (name, Decl) item = (0, omega arith, refl)
 of_its_node lib (name, Body) item = of_its_node_by lib name (is_pair lib name) refl
 of_its_node lib (name, Sub) item = absurd (item refl)
 
--- pieces stand one after the other
+-- pieces one after the other
 take_twice : {X : Type 0} (i j : ℕ) (xs : List X) → i ≤ j → take i (take j xs) ≡ take i xs
 take_twice zero j xs le = refl
 take_twice (suc i) zero xs le = absurd (omega (arith, le))
@@ -66,7 +66,7 @@ module _ {X A : Type 0} (f : X → List A) (xs : List X) where
       let here = ap (λ (x : X). length (f x)) (get_or-take j xs i d less) in
       omega (arith, upto, same, here)
 
-  -- an item of one piece stands before one of a later piece
+  -- an item of one piece comes before one of a later piece
   pub in_pieces : (i : ℕ) (d : X) (k : ℕ) (a : A) → i < length xs → k < length (f (get_or xs i d)) → get_or (f (get_or xs i d)) k a ≡ a → get_or (flat_map f xs) (length (flat_map f (take i xs)) + k) a ≡ a
   in_pieces i d k a within there is = get_or-flat_map f xs i k d a within there ∙ is
 
@@ -99,7 +99,7 @@ module _ (lib : Library) (nodes : List Key) (order : List ℕ) where
         before = pieces_before piece order b a 0 j k less (omega (arith, within)) j_in;
       }
 
--- where an edge leads from the node of x to that of y, y stands before x
+-- if an edge leads from the node of x to that of y, y comes before x
 pub whole_items_obey : (lib : Library) (main : List ℕ) (items : List Key) → IsElaboration lib main items → (reason : Reason) (x y : Key) → IsWhole lib main x → IsWhole lib main y → Carries lib main reason x y → StandsBefore items y x
 whole_items_obey lib main items is reason x y whole_x whole_y carries =
     let nodes = nodes_among lib is.keys in
@@ -115,7 +115,7 @@ whole_items_obey lib main items is reason x y whole_x whole_y carries =
     subst (λ (ks : List Key). StandsBefore ks y x) (sym is.items_are)
     (before_in_order lib nodes is.order y x b a m n whole_y.0.2 whole_x.0.2 (m_in, m_is) (n_in, n_is) b_is a_is less a_in)
 
--- a pair's items stand side by side
+-- a pair's items are side by side
 pub pairs_stay : PairsStayTogether
 pairs_stay lib main items is name pair item =
     let nodes = nodes_among lib is.keys in

@@ -75,7 +75,7 @@ find_least found [] = record {
 }
 find_least found (n ∷ ns) = by_test (is_gt (name_cmp found n)) found n ns refl (find_least n ns) (find_least found ns)
 
--- the least of the names that are so, where a list holds those
+-- the least of the names for which this holds, if a list has those
 abbrev IsLeastIf : (List ℕ → Type 0) → Option (List ℕ) → Type 0
 IsLeastIf IsSo found = MatchOption found ((name : List ℕ) → IsSo name → ⊥) (IsLeastName IsSo)
 

@@ -33,7 +33,7 @@ key_exact = exact_pairs name_cmp (λ a b. nat_cmp (kind_place a) (kind_place b))
 pub key_total : IsTotalOrder key_cmp
 key_total = then_total (on_total (λ (k : Key). k.0) nat_list_cmp_total) (on_total (λ (k : Key). kind_place k.1) nat_cmp_total)
 
--- what stands before `low` is less than the key, and what stands from `high` on is greater
+-- what is before `low` is less than the key, and what is from `high` on is greater
 pub record IsNarrowed (ks : List Key) (k : Key) (low high : ℕ) : Type 0 where
   pub fits : low ≤ high
   pub within : high ≤ length ks

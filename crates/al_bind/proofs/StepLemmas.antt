@@ -38,7 +38,7 @@ use Rattle.al_bind.proofs.EdgeLemmas.{same_at}
 use Rattle.al_bind.proofs.PlaceLemmas.{key_exact, key_itself}
 use Rattle.al_bind.proofs.TieLemmas.{one_place}
 
--- what is told is wanted
+-- what is listed is required
 told_is_so : (extent : Extent) (lib : Library) (keys : List Key) (p y : Key) → IsTold extent lib keys p y → DependsOn lib p y
 told_is_so Whole lib keys p y d = d
 told_is_so Steps lib keys p y (inl s) = directly s.1
@@ -48,7 +48,7 @@ wants_is_so : (extent : Extent) (lib : Library) (keys : List Key) (p : Key) (r :
 wants_is_so extent lib keys p r y (inl d) = subst (λ (s : Reason). Wants lib p s y) (sym d.0) (depends (told_is_so extent lib keys p y d.1))
 wants_is_so extent lib keys p r y (inr o) = o.1
 
--- what is wanted is told where all is
+-- what is required is listed, if all is
 wants_whole : (lib : Library) (keys : List Key) (p : Key) (r : Reason) (y : Key) → Wants lib p r y → WantsTold Whole lib keys p r y
 wants_whole lib keys p _ y (depends d) = inl (refl, d)
 wants_whole lib keys p _ _ (elaborate is c) = inr ((λ (e : Elaborate ≡ Depends). absurd (cc)), elaborate is c)
@@ -211,7 +211,7 @@ module _ (lib : Library) (main : List ℕ) (keys : List Key) (lists : ListsUnits
       let (p, part, wants) = edge.carries.follows in
       wanted_led p t.reason edge.y wants edge.x edge.carries.after part edge.carries.before t.after t.before edge.after_at edge.before_at
 
--- ties that tell edges, and lead to all, give the order of all
+-- ties that represent edges, and from which all others follow, give the order of all
 module _ (lib : Library) (main : List ℕ) (keys : List Key) (edges : List Edge) (within : All (λ t. (t.after < length (nodes_among lib keys)) × (t.before < length (nodes_among lib keys))) edges) (sound : (t : Edge) → Contains edges t → TellsEdge lib main keys t) (reached : (t : Edge) → TellsEdge lib main keys t → Reaches (graph_from (length (nodes_among lib keys)) edges) t.after t.before) where
   pub in_order_of_all : (order : List ℕ) → IsOrder (graph_from (length (nodes_among lib keys)) edges) order → IsOrderBy (length (nodes_among lib keys)) (ComesAfter lib main keys) order
   in_order_of_all order is =

@@ -185,7 +185,7 @@ listed_among lib keys ys P lists units k c = ((λ h. ((lists.all k).0 h).0), (λ
 pub listed_ties : (lib : Library) (keys : List Key) (x : End) (reason : Reason) (ys : List UnitKey) (P : Key → Type 0) (old new : List Edge) → ListsUnits lib (map key_of ys) P → ((k : Key) → Contains keys k → is_unit lib k ≡ true) → Adds old new (OneOf ys (λ y. TiesBy lib keys x (IsFor reason (key_of y)))) → Adds old new (TiesBy lib keys x (λ r k. (r ≡ reason) × P k))
 listed_ties lib keys x reason ys P old new lists units adds = told_ties lib keys x reason ys P old new (listed_among lib keys (map key_of ys) P lists units) adds
 
--- what a part wants, where these dependences are told
+-- what a part requires, if these dependences are listed
 abbrev Depending : (Key → Type 0) → Reason → Key → Type 0
 Depending D r k = (r ≡ Depends) × D k
 

@@ -30,8 +30,8 @@ items_of lib (name, Sub) = (name, Sub) ∷ []
 abbrev pub items_at : Library → List Key → List ℕ → List Key
 items_at lib nodes order = flat_map (λ i. items_of lib (key_at nodes i)) order
 
--- nothing is missing, and the items are those of all nodes, each time the least node all of whose predecessors stand before it;
--- nodes are numbered in the order of their keys
+-- nothing is missing, and the items are those of all nodes, each time the least node all of whose predecessors come before it; nodes are numbered in
+-- the order of their keys
 pub record IsElaboration (lib : Library) (main : List ℕ) (items : List Key) : Type 0 where
   pub complete : IsComplete lib main
   pub keys : List Key
@@ -40,15 +40,15 @@ pub record IsElaboration (lib : Library) (main : List ℕ) (items : List Key) : 
   pub ordered : IsOrderBy (length (nodes_among lib keys)) (ComesAfter lib main keys) order
   pub items_are : items ≡ items_at lib (nodes_among lib keys) order
 
--- what a line says: an item, the item before it, and why
+-- a line: an item, the item before it, and why
 abbrev pub line_model : Line → Key × Key × Reason
 line_model line = (key_of line.after, key_of line.before, line.reason)
 
 abbrev pub line_of : List Key → Edge → Key × Key × Reason
 line_of keys edge = (key_at keys edge.x, key_at keys edge.y, edge.reason)
 
--- nothing is missing, and the lines show the cycle to which the walk over stuck nodes comes: for each two nodes the carriers of
--- the edge with the first reason, then the least x, then the least y
+-- nothing is missing, and the lines show the cycle to which the walk over stuck nodes comes: for each two nodes the carriers of the edge with the
+-- first reason, then the least x, then the least y
 pub record IsCycleOfItems (lib : Library) (main : List ℕ) (lines : List Line) : Type 0 where
   pub complete : IsComplete lib main
   pub keys : List Key
@@ -58,7 +58,7 @@ pub record IsCycleOfItems (lib : Library) (main : List ℕ) (lines : List Line) 
   pub fault : IsFault (length (nodes_among lib keys)) edges shown
   pub lines_are : map line_model lines ≡ map (line_of keys) shown
 
--- the first fault that holds
+-- the first error that holds
 abbrev pub IsBindFault : Library → List ℕ → BindFault → Type 0
 IsBindFault lib main (Lacks lack) = IsLack lib main lack
 IsBindFault lib main (Cycle lines) = IsCycleOfItems lib main lines.items

@@ -20,15 +20,15 @@ pub data IsPartOf (lib : Library) (x : Key) : Key → Type 0 where
   itself : IsPartOf lib x x
   subunit : {p q : Key} {h : Header} → IsPartOf lib x p → unit_at lib p ≡ Some h → Contains (subunits_of lib p.0 h) q → IsPartOf lib x q
 
--- a unit wants y elaborated before it, for this reason: it depends on y, names y's unit in Elaborate, or names a unit in
--- Elaborate_All whose body y is, or whose declaration needs y
+-- a unit requires y before it, for this reason: it depends on y, names y's unit in Elaborate, or names a unit in Elaborate_All whose body y is, or
+-- whose declaration needs y
 pub data Wants (lib : Library) (p : Key) : Reason → Key → Type 0 where
   depends : {y : Key} → DependsOn lib p y → Wants lib p Depends y
   elaborate : {q : List ℕ} {h : Header} → unit_at lib p ≡ Some h → Contains h.elaborate q → Wants lib p Elaborate (q, Body)
   elaborate_all_body : {q : List ℕ} {h : Header} → unit_at lib p ≡ Some h → Contains h.elaborate_all q → Wants lib p ElaborateAll (q, Body)
   elaborate_all : {y : Key} {q : List ℕ} {h : Header} → unit_at lib p ≡ Some h → Contains h.elaborate_all q → Needed lib q y → Wants lib p ElaborateAll y
 
--- x is elaborated after y, for this reason: a part of x wants it
+-- x is elaborated after y, for this reason: a part of x requires it
 abbrev pub Follows : Library → Reason → Key → Key → Type 0
 Follows lib reason x y = (p : Key) × IsPartOf lib x p × Wants lib p reason y
 
@@ -36,7 +36,7 @@ Follows lib reason x y = (p : Key) × IsPartOf lib x p × Wants lib p reason y
 abbrev pub is_pair : Library → List ℕ → Bool
 is_pair lib name = option_map_or (λ h. h.has_elaborate_body) (unit_at lib (name, Decl)) false && is_some (unit_at lib (name, Body))
 
--- what is elaborated without a break: an item, or a pair, which goes by its declaration
+-- a node, which is elaborated without a break: an item, or a pair, which is named by its declaration
 abbrev pub node_of : Library → Key → Key
 node_of lib (name, Decl) = (name, Decl)
 node_of lib (name, Body) = if is_pair lib name then (name, Decl) else (name, Body)

@@ -8,7 +8,7 @@ use Rattle.al_bind.specs.declared.binding.Line.{Line}
 use Rattle.al_bind.specs.Elaboration.{IsItem, is_pair}
 use Rattle.al_bind.specs.Numbers.{IsAt}
 
--- y stands in the list before x
+-- y comes before x in the list
 pub record StandsBefore (items : List Key) (y x : Key) : Type 0 where
   pub first : ℕ
   pub second : ℕ

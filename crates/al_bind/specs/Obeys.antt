@@ -8,8 +8,8 @@ use Rattle.al_bind.specs.Binding.{IsElaboration}
 use Rattle.al_bind.specs.Elaboration.{Carries}
 use Rattle.al_bind.specs.Laws.{StandsBefore}
 
--- where an item x is elaborated after an item y for any reason, and the two are no pair, y stands before x; just the subunits of the
--- library name a parent body, as they do where it is read from texts
+-- if an item x is elaborated after an item y for any reason, and the two are no pair, y comes before x; only the subunits of the library name a
+-- parent body, as they do if it is read from sources
 abbrev pub OrderObeys : Type 0
 OrderObeys =
     (lib : Library) (main : List ℕ) (items : List Key) → NameParentBodies lib → IsElaboration lib main items

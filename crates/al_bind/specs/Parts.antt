@@ -6,6 +6,6 @@ use Rattle.al_unit_graph.specs.Headers.{Library}
 use Rattle.al_unit_graph.specs.Library.{unit_at}
 use Rattle.al_unit_graph.specs.Needed.{subunits_of}
 
--- none where there is no such unit
+-- none if there is no such unit
 abbrev pub subunits_at : Library → Key → List Key
 subunits_at lib key = option_map_or (subunits_of lib key.0) (unit_at lib key) []

@@ -1,4 +1,4 @@
--- Which dependences are told as ties: all of a unit's, or some that lead to all.
+-- The dependences that are listed as ties: all of a unit's, or some from which all others follow.
 use Rattle.std.specs.Prelude.{◌≡◌, ◌≢◌, ◌⊎◌, List}
 use Rattle.std.specs.List.{Contains}
 use Rattle.al_base.specs.Batch.{Key}
@@ -16,12 +16,12 @@ use Rattle.al_bind.specs.declared.edges.Extent.TheVariants.{Whole, Steps}
 abbrev pub ArePlaced : Library → List Key → List Key → Type 0
 ArePlaced lib keys those = (y : Key) → Contains those y → (end : End) × IsEnd lib keys y end
 
--- all on which a unit depends; or, where what it depends on by itself are placed items, these alone, which lead to the others
+-- all that a unit depends on; or, if what it depends on directly are placed items, only these, from which the others follow
 abbrev pub IsTold : Extent → Library → List Key → Key → Key → Type 0
 IsTold Whole lib keys p y = DependsOn lib p y
 IsTold Steps lib keys p y = (ArePlaced lib keys (direct lib p) × Contains (direct lib p) y) ⊎ ((ArePlaced lib keys (direct lib p) → ⊥) × DependsOn lib p y)
 
--- what a unit wants before it, with these dependences in place of all
+-- what a unit requires before it, with these dependences in place of all
 abbrev pub WantsBy : (Key → Type 0) → Library → Key → Reason → Key → Type 0
 WantsBy IsSo lib p r y = ((r ≡ Depends) × IsSo y) ⊎ ((r ≢ Depends) × Wants lib p r y)
 

@@ -16,10 +16,13 @@ use al_base_graph::{Edge, Reason, order_of_ties};
 use al_unit_graph::Sources;
 use std::alloc::Global;
 
-/// An item that comes after another one, and why.
+/// A line of a cycle: an item that comes after another one, and why.
 pub struct Line {
+    /// The item that comes after.
     pub after: UnitKey,
+    /// The item that comes before.
     pub before: UnitKey,
+    /// Why it does.
     pub reason: Reason,
 }
 
@@ -35,9 +38,9 @@ impl Drop for Line {
 
 /// Why a partition has no elaboration order.
 pub enum BindFault {
-    /// Something is missing.
+    /// Something that the partition needs is missing.
     Lacks(MissingItem),
-    /// A cycle: each line's node comes after that of the next line, and the last line's after that of the first (ARM 10.2.1(17)).
+    /// A cycle. The node of each line's item comes after that of the next line, and that of the last line after that of the first (ARM 10.2.1(17)).
     Cycle(Vec<Line>),
 }
 
@@ -87,7 +90,7 @@ fn items_at(
     Ok(items)
 }
 
-// What a tie says.
+// The line that an edge gives.
 fn line_of(alloc: Global, keys: &[UnitKey], edge: &Edge) -> Result<Line, NoMemory>
     requires x_in { edge.now.x < length keys.now }
     requires y_in { edge.now.y < length keys.now }
@@ -100,7 +103,7 @@ fn line_of(alloc: Global, keys: &[UnitKey], edge: &Edge) -> Result<Line, NoMemor
     })
 }
 
-// What these ties say.
+// The lines that these edges give.
 fn lines_of(alloc: Global, keys: &[UnitKey], edges: &[Edge]) -> Result<Vec<Line>, NoMemory>
     requires { All (λ t. (t.x < length keys.now) × (t.y < length keys.now)) edges.now }
     ensures { IfOk result (λ lines. map line_model lines.items ≡ map (line_of (map key_of keys.now)) edges.now) }
@@ -112,7 +115,7 @@ fn lines_of(alloc: Global, keys: &[UnitKey], edges: &[Edge]) -> Result<Vec<Line>
     Ok(lines)
 }
 
-// The order by these ties, or the lines of the cycle that they show: where these are all ties, that of the partition.
+// The order by these edges, or the lines of the cycle that they show. If these are all edges, the cycle is that of the partition.
 fn bound_by(
     alloc: Global,
     sources: &Sources,
@@ -138,14 +141,14 @@ fn bound_by(
     }
 }
 
-/// The order in which the items of a partition are elaborated: its needed declarations and bodies, each time the least node by the
-/// bytes of its name, a declaration before a body, whose predecessors all stand before it. A declaration with Elaborate_Body and its
-/// body are one node, the body right after the declaration (ARM 10.2(9), 10.2.1(26)). Or the first fault: what is missing, or else
-/// the cycle that shows that there is no order.
+/// The elaboration order of a partition (ARM 10.2(9), 10.2.1(26)). Its items are the declarations and bodies that the partition needs. A declaration
+/// with Elaborate_Body and its body are one node, and the body comes right after the declaration. The next node is always the least by the bytes of
+/// its name, a declaration before a body, among those whose predecessors have all come.
 ///
 /// # Errors
 ///
-/// `NoMemory` where memory is wanted.
+/// `BindFault::Lacks` if something is missing; else `BindFault::Cycle` if there is no order, with the cycle that shows it; `NoMemory` if the
+/// allocator refuses memory.
 pub fn bind(
     alloc: Global,
     sources: &Sources,

@@ -1,4 +1,4 @@
-// For each edge between two nodes, and each pair of items that carries it, a tie; or for some, which lead to all.
+// Edges of the elaboration graph. Each edge is between two nodes, and is carried by a pair of items.
 ghost use Rattle.std.specs.Prelude.{◌≡◌, ◌↔◌, ◌⊎◌, map, IfOk, MatchBool, OnOk};
 ghost use Rattle.std.specs.List.{Contains};
 ghost use Rattle.al_base.specs.Batch.{key_of, Key};
@@ -17,16 +17,16 @@ use al_base_graph::{Edge, Reason};
 use al_unit_graph::Sources;
 use std::alloc::Global;
 
-// How many of the ties are listed.
+// How many of the edges are listed.
 #[derive(Clone, Copy)]
 pub(crate) enum Extent {
-    // One for each edge between two nodes, and each pair of items that carries it.
+    // All: one for each pair of nodes, and each pair of items that carries it.
     Whole,
-    // Some of these, which lead to all.
+    // Some, from which all others follow by transitivity.
     Steps,
 }
 
-// Adds the tie from an item to another one, where that is one of the partition and of another node.
+// Adds the edge from an item to another one, if that is an item of the partition and of another node.
 fn add_tie(
     sources: &Sources,
     places: &Places,
@@ -53,7 +53,7 @@ fn add_tie(
     Ok(())
 }
 
-// The same to each of some items.
+// Adds the edges from an item to each of these items.
 fn add_ties(
     sources: &Sources,
     places: &Places,
@@ -71,7 +71,7 @@ fn add_ties(
     Ok(())
 }
 
-// Whether all of these are items that have their places.
+// Whether all of these are items of the partition.
 fn are_placed(sources: &Sources, places: &Places, keys: &[UnitKey]) -> bool
     requires { ArePlaces sources.now places.now }
     ensures { MatchBool result (ArePlaced sources.now (map key_of places.now.keys.items) (map key_of keys.now)) (ArePlaced sources.now (map key_of places.now.keys.items) (map key_of keys.now) → ⊥) }
@@ -84,7 +84,7 @@ fn are_placed(sources: &Sources, places: &Places, keys: &[UnitKey]) -> bool
     true
 }
 
-// What a unit depends on by itself, where these are placed items; or else all on which it depends.
+// The units that a unit depends on directly, if all of them are items of the partition; else all that it depends on.
 fn steps_from(sources: &Sources, places: &Places, part: &UnitKey) -> Result<Vec<UnitKey>, NoMemory>
     requires { ArePlaces sources.now places.now }
     ensures { IfOk result (λ keys. (y : Key) → Contains (map key_of places.now.keys.items) y → Contains (map key_of keys.items) y ↔ IsTold Steps sources.now (map key_of places.now.keys.items) (key_of part.now) y) }
@@ -96,7 +96,7 @@ fn steps_from(sources: &Sources, places: &Places, part: &UnitKey) -> Result<Vec<
     sources.depends(part)
 }
 
-// The dependences of a unit that are told as ties.
+// The dependences of a unit that are listed as edges.
 fn dependences_told(
     sources: &Sources,
     places: &Places,
@@ -112,7 +112,7 @@ fn dependences_told(
     }
 }
 
-// To those on which a part of the item depends.
+// Adds the edges to the items that a part of the item depends on.
 fn add_dependences(
     sources: &Sources,
     places: &Places,
@@ -129,7 +129,7 @@ fn add_dependences(
     Ok(())
 }
 
-// To the body of this name.
+// Adds the edge to the body with this name.
 fn add_body(
     alloc: Global,
     sources: &Sources,
@@ -150,7 +150,7 @@ fn add_body(
     Ok(())
 }
 
-// To the bodies of the units named in Elaborate.
+// Adds the edges to the bodies of the units named in Elaborate.
 fn add_bodies(
     alloc: Global,
     sources: &Sources,
@@ -168,7 +168,7 @@ fn add_bodies(
     Ok(())
 }
 
-// To all that the declaration of a unit needs.
+// Adds the edges to all items that the declaration of a unit needs.
 fn add_needed(
     sources: &Sources,
     places: &Places,
@@ -184,7 +184,7 @@ fn add_needed(
     Ok(())
 }
 
-// To the body of a unit named in Elaborate_All, and to all that its declaration needs.
+// Adds the edges to the body of a unit named in Elaborate_All, and to all items that its declaration needs.
 fn add_all_of(
     alloc: Global,
     sources: &Sources,
@@ -201,7 +201,7 @@ fn add_all_of(
     Ok(())
 }
 
-// The same for each of the units named in Elaborate_All.
+// Adds the edges for each of the units named in Elaborate_All.
 fn add_all(
     alloc: Global,
     sources: &Sources,
@@ -219,7 +219,7 @@ fn add_all(
     Ok(())
 }
 
-// To what a part of the item wants before it.
+// Adds the edges to all items that must be elaborated before a part of the item.
 fn add_part(
     alloc: Global,
     sources: &Sources,
@@ -255,7 +255,7 @@ fn add_part(
     Ok(())
 }
 
-// The same of each of the item's parts.
+// Adds the edges to all items that must be elaborated before one of the item's parts.
 fn add_parts(
     alloc: Global,
     sources: &Sources,
@@ -274,7 +274,7 @@ fn add_parts(
     Ok(())
 }
 
-// The ties of edges that an item carries.
+// Adds the edges that an item carries.
 fn add_item(
     alloc: Global,
     sources: &Sources,
@@ -294,7 +294,7 @@ fn add_item(
     Ok(())
 }
 
-// The ties of edges that these items carry.
+// Adds the edges that these items carry.
 fn add_items(
     alloc: Global,
     sources: &Sources,
@@ -312,7 +312,7 @@ fn add_items(
     Ok(())
 }
 
-// The ties of the edges of a partition: all, or some that lead to all.
+// The edges of a partition: all, or some from which all others follow.
 pub(crate) fn ties_of(
     alloc: Global,
     sources: &Sources,

@@ -9,13 +9,13 @@ use al_base::{Name, NoMemory, UnitKey};
 use al_unit_graph::Sources;
 use std::alloc::Global;
 
-/// What a partition lacks.
+/// What is missing in a partition.
 pub enum MissingItem {
-    /// The main unit is no procedure without parameters (ARM 10.2(7)).
+    /// The main unit is not a procedure without parameters (ARM 10.2(7)).
     Main,
-    /// The body of the needed declaration of this name isn't there (ARM 10.2(4)).
+    /// The body of the needed declaration with this name is missing (ARM 10.2(4)).
     Body(Name),
-    /// The subunit of this name, of a stub of a needed unit, isn't there (ARM 10.2(5)).
+    /// The subunit with this name, which a stub of a needed unit names, is missing (ARM 10.2(5)).
     Subunit(Name),
 }
 
@@ -29,12 +29,12 @@ impl Drop for MissingItem {
     }
 }
 
-/// What a partition with this main unit lacks: its main subprogram, or else the body of the least name, or else the subunit of the
-/// least name; nothing where it is complete. The needed units are given.
+/// What is missing in a partition with this main unit: its main subprogram, or else the missing body with the least name, or else the missing
+/// subunit with the least name. None if it is complete. `needed` lists the needed units.
 ///
 /// # Errors
 ///
-/// `NoMemory` where memory is wanted.
+/// `NoMemory` if the allocator refuses memory.
 pub fn first_lack(
     alloc: Global,
     sources: &Sources,

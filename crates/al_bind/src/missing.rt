@@ -1,4 +1,4 @@
-// Bodies and subunits that aren't there.
+// Missing bodies and subunits.
 ghost use Rattle.std.specs.Prelude.{◌≡◌, ℕ, List, map, None, IfOk, MatchOption};
 ghost use Rattle.std.specs.Option.{option_map};
 ghost use Rattle.std.specs.List.{flat_map};
@@ -11,7 +11,7 @@ use al_unit_graph::Sources;
 use std::alloc::Global;
 use std::cmp::Ordering;
 
-// Whether the unit of this name is a procedure without parameters.
+// Whether the unit with this name is a procedure without parameters.
 pub(crate) fn is_main(sources: &Sources, main: &[u8]) -> bool
     ensures { result ≡ is_main sources.now main.now }
 {
@@ -24,7 +24,7 @@ pub(crate) fn is_main(sources: &Sources, main: &[u8]) -> bool
     }
 }
 
-// Whether it is a declaration that a body completes, and whose body isn't there.
+// Whether the unit is a declaration that needs a body, and the body is missing.
 fn lacks_body(sources: &Sources, key: &UnitKey) -> bool
     ensures { result ≡ lacks_body sources.now (key_of key.now) }
 {
@@ -55,7 +55,7 @@ fn lesser(found: Option<Name>, name: Name) -> Option<Name>
     }
 }
 
-// The lesser of the name that was found and of that of a declaration that lacks its body.
+// The lesser of the name found so far and the name of this declaration, if its body is missing.
 fn with_body(
     alloc: Global,
     sources: &Sources,
@@ -72,7 +72,7 @@ fn with_body(
     }
 }
 
-// The least name of a declaration that lacks its body.
+// The least name of a declaration whose body is missing.
 fn least_body(alloc: Global, sources: &Sources, keys: &[UnitKey]) -> Result<Option<Name>, NoMemory>
     ensures { IfOk result (λ least. least ≡ least_of None (flat_map (missing_bodies sources.now) (map key_of keys.now))) }
 {
@@ -83,7 +83,7 @@ fn least_body(alloc: Global, sources: &Sources, keys: &[UnitKey]) -> Result<Opti
     Ok(found)
 }
 
-// The lesser of the name that was found and of that of a stub's subunit, where it isn't there.
+// The lesser of the name found so far and the name of the stub's subunit, if that is missing.
 fn with_stub(
     alloc: Global,
     sources: &Sources,
@@ -103,7 +103,7 @@ fn with_stub(
     }
 }
 
-// The least of the name that was found and of those of a body's subunits that aren't there.
+// The least of the name found so far and the names of a body's subunits that are missing.
 fn with_stubs(
     alloc: Global,
     sources: &Sources,
@@ -120,7 +120,7 @@ fn with_stubs(
     Ok(least)
 }
 
-// The same of a unit.
+// The least of the name found so far and the names of the unit's subunits that are missing.
 fn with_subunits(
     alloc: Global,
     sources: &Sources,
@@ -141,7 +141,7 @@ fn with_subunits(
     }
 }
 
-// The least name of a subunit that isn't there.
+// The least name of a subunit that is missing.
 fn least_subunit(
     alloc: Global,
     sources: &Sources,
@@ -156,7 +156,7 @@ fn least_subunit(
     Ok(found)
 }
 
-/// The least name of a needed declaration that lacks its body; the needed units are given.
+/// The least name of a needed declaration whose body is missing. `needed` lists the needed units.
 pub(crate) fn missing_body(
     alloc: Global,
     sources: &Sources,
@@ -171,7 +171,7 @@ pub(crate) fn missing_body(
     Ok(least)
 }
 
-/// The least name of a subunit of a needed unit's stub that isn't there; the needed units are given.
+/// The least name of a missing subunit that a stub of a needed unit names. `needed` lists the needed units.
 pub(crate) fn missing_subunit(
     alloc: Global,
     sources: &Sources,

@@ -12,7 +12,7 @@ use al_base::{Name, NoMemory, UnitKey, UnitKind};
 use al_unit_graph::Sources;
 use std::alloc::Global;
 
-// Adds the subunit of a stub, where the library has it.
+// Adds the subunit of a stub, if the library has it.
 fn add_subunit(
     alloc: Global,
     sources: &Sources,
@@ -77,7 +77,10 @@ fn add_keys(alloc: Global, keys: &mut Vec<UnitKey>, more: &[UnitKey]) -> Result<
     Ok(())
 }
 
-/// The parts of an item: itself, its subunits and theirs (ARM 10.1.3). The subunits of each are added once.
+/// The parts of an item: itself, its subunits and their subunits (ARM 10.1.3). The subunits of each unit are added once.
+///
+/// # Errors
+/// `NoMemory` if the allocator refuses memory.
 pub fn parts_of(alloc: Global, sources: &Sources, key: &UnitKey) -> Result<Vec<UnitKey>, NoMemory>
     ensures { IfOk result (λ parts. (p : Key) → Contains (map key_of parts.items) p ↔ IsPartOf sources.now (key_of key.now) p) }
 {

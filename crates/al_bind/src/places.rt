@@ -1,4 +1,4 @@
-// Where items and nodes stand in the order of keys.
+// The places of items and nodes in the order of keys.
 ghost use Rattle.std.specs.Prelude.{◌≡◌, ◌↔◌, ℕ, ◌<◌, length, map, IfOk, MatchOption};
 ghost use Rattle.std.specs.List.{Contains};
 ghost use Rattle.std.specs.List.Sorted.{IsStrictlySortedBy};
@@ -15,7 +15,7 @@ use al_unit_graph::Sources;
 use std::alloc::Global;
 use std::cmp::Ordering;
 
-// The needed units in the order of their keys, and the nodes among them: items that go by themselves, and declarations of pairs.
+// The needed units in the order of their keys, and the nodes among them: items that are nodes of their own, and declarations of pairs.
 pub(crate) struct Places {
     pub(crate) keys: Vec<UnitKey>,
     pub(crate) nodes: Vec<UnitKey>,
@@ -27,7 +27,7 @@ impl Drop for Places {
     }
 }
 
-// Where an item stands among the needed units, and where its node does among the nodes.
+// The place of an item among the needed units, and the place of its node among the nodes.
 #[derive(Clone, Copy)]
 pub(crate) struct End {
     pub(crate) item: usize,
@@ -44,7 +44,7 @@ fn rank(kind: UnitKind) -> u8
     }
 }
 
-// By the bytes of the names, and of one name the declaration, the body, the subunit.
+// Compares a key with a name and kind: by the bytes of the names, and for one name declaration, body, subunit.
 fn compare(key: &UnitKey, name: &[u8], kind: UnitKind) -> Ordering
     ensures { result ≡ key_cmp (key_of key.now) (name.now, kind) }
 {
@@ -54,7 +54,7 @@ fn compare(key: &UnitKey, name: &[u8], kind: UnitKind) -> Ordering
         .then(rank(key.kind).cmp(&rank(kind)))
 }
 
-// Where the unit of this name and kind stands among some in order.
+// The place of the unit with this name and kind among units in order, if it is there.
 pub(crate) fn place_of(keys: &[UnitKey], name: &[u8], kind: UnitKind) -> Option<usize>
     requires { IsStrictlySortedBy key_cmp (map key_of keys.now) }
     ensures { MatchOption result (Contains (map key_of keys.now) (name.now, kind) → ⊥) (IsAt (map key_of keys.now) (name.now, kind)) }
@@ -72,7 +72,7 @@ pub(crate) fn place_of(keys: &[UnitKey], name: &[u8], kind: UnitKind) -> Option<
     None
 }
 
-// The same key.
+// A copy of a key.
 pub(crate) fn copy_of(alloc: Global, key: &UnitKey) -> Result<UnitKey, NoMemory>
     ensures { IfOk result (λ copy. key_of copy ≡ key_of key.now) }
 {
@@ -82,7 +82,7 @@ pub(crate) fn copy_of(alloc: Global, key: &UnitKey) -> Result<UnitKey, NoMemory>
     })
 }
 
-// Whether the declaration of this name has Elaborate_Body and its body is there.
+// Whether the declaration with this name has Elaborate_Body and its body exists.
 pub(crate) fn is_pair(sources: &Sources, name: &[u8]) -> bool
     ensures { result ≡ is_pair sources.now name.now }
 {
@@ -94,7 +94,7 @@ pub(crate) fn is_pair(sources: &Sources, name: &[u8]) -> bool
     }
 }
 
-// Whether it is an item that goes by itself, or the declaration of a pair.
+// Whether the unit is an item that is a node of its own, or the declaration of a pair.
 fn is_node(sources: &Sources, key: &UnitKey) -> bool
     ensures { result ≡ is_node sources.now (key_of key.now) }
 {
@@ -105,7 +105,7 @@ fn is_node(sources: &Sources, key: &UnitKey) -> bool
     }
 }
 
-// Of which kind the node is to which an item belongs. It has the item's name.
+// The kind of the unit that names the node of an item. The name is the item's.
 fn node_kind(sources: &Sources, key: &UnitKey) -> UnitKind
     ensures { (key.now.name, result) ≡ node_of sources.now (key_of key.now) }
 {
@@ -139,7 +139,7 @@ impl Places {
         Ok(Places { keys, nodes })
     }
 
-    // Where an item and its node stand; nothing where it is no item of the partition.
+    // The places of an item and of its node; none if it is not an item of the partition.
     pub(crate) fn end_of(&self, sources: &Sources, key: &UnitKey) -> Option<End>
         requires { ArePlaces sources.now self.now }
         ensures { MatchOption result ((end : End) → IsEnd sources.now (map key_of self.now.keys.items) (key_of key.now) end → ⊥) (IsEnd sources.now (map key_of self.now.keys.items) (key_of key.now)) }

@@ -35,7 +35,7 @@ use Rattle.al_check_bounded.specs.declared.after.EndedText.{EndedText}
 use Rattle.al_check_bounded.specs.declared.after.UnitFacts.{UnitFacts}
 use Rattle.al_check.specs.Ada.{ended_text, item_walked, round_of, verdict_from}
 
--- ---- faults
+-- ---- errors
 
 -- the number of each rule of checks is one of theirs
 of_checks : (r : CheckRule) → is_check_code (rule_number r) ≡ true
@@ -74,7 +74,7 @@ all_told : (unit : UnitKey) (fs : List Fault) → list_all (is_fault_of unit) (m
 all_told unit [] = refl
 all_told unit (f ∷ fs) = ap (λ b. b && list_all (is_fault_of unit) (map (fault_in unit) fs)) (fault_told unit f) ∙ all_told unit fs
 
--- ---- the unit whose text it is
+-- ---- the unit whose source it is
 
 abbrev OfUnit : UnitKey → Result UnitStart Fault → Type 0
 OfUnit unit (Ok s) = s.own.unit ≡ unit

@@ -1,4 +1,4 @@
--- A unit's parent and the units of its with clauses are such as its text names.
+-- A unit's parent and the units of its with clauses are named by its source.
 use Rattle.std.proofs.Common.{◌≡◌, Bool, true, false, ◌&&◌, ℕ, List, [], ◌∷◌, ◌++◌, append-nil, append_assoc, fold, map, Option, Some, None, Result, Ok, Err, is_some, refl, sym, ap, subst, ◌∙◌, if◌then◌else◌}
 use Rattle.std.specs.Prelude.{⊤}
 use Rattle.std.specs.List.{Contains, flat_map, list_all}
@@ -223,7 +223,7 @@ module _ (units : List UnitKey) (r : UnitFacts) (e : EndedText) (x : Inside) (h 
   unfolding ended
   ended_named = viewed_named (own_view e.own e.declared r.view)
 
--- a unit in whose text nothing is wrong names its parent and the units of its with clauses, as its text does
+-- a unit without errors names its parent and the units of its with clauses, as its source does
 pub verdict_named : (t : Table) (unit : UnitKey) (tree : CompilationUnitTree) → NamesWithin (named_by (header_of tree)) (verdict_from t unit tree (unit_at t unit tree))
 verdict_named t unit tree = by (unit_at t unit tree) (start_named t unit tree)
   where

@@ -17,7 +17,7 @@ if_both (Err e) P Q S f p q = p
 pub agrees_too : {A : Type 0} (table : A → Table) (a b : A) (log : Log) → a ≡ b → Agrees (table a) log → Agrees (table b) log
 agrees_too {A} table a b log h agrees = subst (λ (x : A). Agrees (table x) log) h agrees
 
--- a verdict that was found of the log up to it, where nothing more was asked
+-- a verdict that comes from the log up to it, if nothing more was asked
 pub told_here : (before middle : Log) (found : UnitResult) (verdict : Verdict) (claim : Table → Type 0) (by : Table → Verdict) → FromAnswers before middle claim → ((t : Table) → claim t → verdict ≡ by t)
     → found.log ≡ middle → verdict_of found.finding ≡ verdict → FromAnswers before found.log (λ t. verdict_of found.finding ≡ by t)
 told_here before middle found verdict claim by first step same is t h =

@@ -1,4 +1,4 @@
--- What is found of a unit, by its start and by the faults of its item.
+-- The verdict over a unit, by its start and by the errors of its item.
 use Rattle.std.proofs.Common.{◌≡◌, ◌≢◌, ℕ, List, [], ◌∷◌, map, Option, Some, None, Result, Ok, Err, refl, ap, ◌∙◌}
 use Rattle.al_base.specs.declared.diagnostic.Diagnostic.{Diagnostic}
 use Rattle.al_base.specs.declared.unit_key.UnitKey.{UnitKey}

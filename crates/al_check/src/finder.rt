@@ -1,4 +1,4 @@
-// Who finds what the text of an Ada unit says.
+// The finder of Ada units.
 ghost use Rattle.std.specs.Prelude.{◌≡◌, ◌∷◌, [], IfOk, if◌then◌else◌, not};
 ghost use Rattle.al_tree.specs.UnitViews.{unit_model};
 ghost use Rattle.al_query.specs.Reads.{Agrees, FromAnswers};
@@ -22,7 +22,7 @@ use al_unit_header::private_types;
 use al_view::{Interface, Seq};
 use std::alloc::Global;
 
-/// The fault of a unit's start.
+/// The verdict over a unit whose start has this error.
 fn one_fault(alloc: Global, unit: &UnitKey, fault: &Fault) -> Result<UnitVerdict, NoMemory>
     ensures { IfOk result (λ finding. verdict_of finding ≡ Wrong (fault_in unit.now fault.now ∷ [])) }
 {
@@ -32,7 +32,7 @@ fn one_fault(alloc: Global, unit: &UnitKey, fault: &Fault) -> Result<UnitVerdict
     Ok(UnitVerdict::Faulty(faults))
 }
 
-/// What is found in the text of a unit whose start has a fault.
+/// The verdict over a unit whose start has an error, with what was asked.
 fn faulty<A: Answers + Drop>(
     alloc: Global,
     unit: &UnitKey,
@@ -55,7 +55,7 @@ fn faulty<A: Answers + Drop>(
     }
 }
 
-/// What is found in the text of a unit that starts so, or whose start has that fault, where its private part was found to declare this.
+/// The verdict over a unit with this start, or with this error in its start. `private_part` is what its private part declares.
 fn find_from<A: Answers + Drop>(
     alloc: Global,
     unit: &UnitKey,
@@ -87,7 +87,7 @@ fn has_private_types(alloc: Global, tree: &CompilationUnit) -> Result<bool, NoMe
     Ok(has)
 }
 
-/// What the private part of a unit declares that starts so, where its start has no fault.
+/// What the private part of a unit with this start declares, if the start has no error.
 fn private_part_after<A: Answers + Drop>(
     alloc: Global,
     tree: &CompilationUnit,
@@ -103,7 +103,7 @@ fn private_part_after<A: Answers + Drop>(
     }
 }
 
-/// What the private part of a unit declares, where its start has no fault.
+/// What the private part of a unit declares, if the unit's start has no error.
 fn private_part_at<A: Answers + Drop>(
     alloc: Global,
     unit: &UnitKey,
@@ -123,7 +123,7 @@ fn private_part_at<A: Answers + Drop>(
     }
 }
 
-/// The same where it is wanted.
+/// What the private part of a unit declares, if that is wanted; else nothing.
 fn private_part_where<A: Answers + Drop>(
     alloc: Global,
     unit: &UnitKey,
@@ -140,7 +140,8 @@ fn private_part_where<A: Answers + Drop>(
     Ok((Interface::new(alloc), recorder))
 }
 
-/// The same where its visible part has private types: the words of their values are told by their full declarations, which stand after what may use them.
+/// What the private part of a unit declares, if its visible part has private types; else nothing. The full declarations of these types say how many
+/// words a value has, and come after declarations that use the types.
 fn private_part_if<A: Answers + Drop>(
     alloc: Global,
     unit: &UnitKey,
@@ -159,7 +160,7 @@ fn private_part_if<A: Answers + Drop>(
     }
 }
 
-/// What is found in the text of a unit whose private part was found to declare this.
+/// The verdict over a unit whose private part declares this.
 fn find_with<A: Answers + Drop>(
     alloc: Global,
     unit: &UnitKey,
@@ -181,7 +182,7 @@ fn find_with<A: Answers + Drop>(
     }
 }
 
-/// What is found in the text of a unit.
+/// The verdict over a unit.
 fn find_in<A: Answers + Drop>(
     alloc: Global,
     unit: &UnitKey,
@@ -197,7 +198,7 @@ fn find_in<A: Answers + Drop>(
     }
 }
 
-/// Finds what the texts of Ada units say. It keeps nothing between checks.
+/// The finder of Ada units. It keeps nothing between checks.
 pub struct AdaFinder;
 
 impl Drop for AdaFinder {
@@ -250,7 +251,7 @@ impl UnitFinder for AdaFinder {
 /// The checker of Ada units.
 pub type AdaCheck = BoundedCheck<AdaFinder>;
 
-/// A checker of Ada units that made no check.
+/// A checker of Ada units that has made no check.
 pub fn ada_check() -> AdaCheck {
     BoundedCheck::new(AdaFinder)
 }

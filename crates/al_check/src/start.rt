@@ -1,4 +1,4 @@
-// Where the item of a unit begins.
+// The place at which the item of a unit begins.
 ghost use Rattle.std.specs.Prelude.{◌≡◌, IfOk};
 ghost use Rattle.al_tree.specs.UnitViews.{unit_model};
 ghost use Rattle.al_check.specs.Ada.{round_of, standing_of, text_of, without_withs};
@@ -14,7 +14,7 @@ use al_unit_header::{private_types, unit_needs_body};
 use al_view::{Interface, Seq, copied_unit};
 use std::alloc::Global;
 
-/// What stays the same in the text of a unit.
+/// What stays the same during the check of a unit.
 fn text_of(
     alloc: Global,
     packages: Seq<UnitKey>,
@@ -39,7 +39,7 @@ fn text_of(
     })
 }
 
-/// What a text says of its place without the units that its with clauses name, and these.
+/// A unit's own header without the units that its with clauses name, and these units.
 fn withs_apart(alloc: Global, own: OwnText) -> (OwnText, Seq<UnitKey>)
     ensures { result ≡ (without_withs own, own.withs) }
 {
@@ -64,13 +64,13 @@ fn withs_apart(alloc: Global, own: OwnText) -> (OwnText, Seq<UnitKey>)
     (own, withs)
 }
 
-/// Where the item of a unit begins, and what is known of the unit before.
+/// The place at which the item of a unit begins, and what is known of the unit before.
 pub(crate) struct Begun {
     pub(crate) unit_facts: UnitFacts,
     pub(crate) state: CheckState,
 }
 
-/// Where the item of a unit begins that starts so, where its private part was found to declare this.
+/// The place at which the item of a unit with this start begins. `private_part` is what its private part declares.
 #[tactic(auto, unfolding(al_tree::specs::UnitViews::unit_model))]
 pub(crate) fn begun_at(
     alloc: Global,

@@ -1,4 +1,4 @@
-// What is found in the item of a unit.
+// The walk over the item of a unit, and its verdict.
 ghost use Rattle.std.specs.Prelude.{◌≡◌, IfOk};
 ghost use Rattle.al_tree.specs.UnitViews.{library_item_model, unit_model};
 ghost use Rattle.al_query.specs.Reads.{Agrees, FromAnswers};
@@ -21,7 +21,7 @@ use al_tree::{CompilationUnit, LibraryItem};
 use al_view::Interface;
 use std::alloc::Global;
 
-/// What the walk left, without what it stood on.
+/// What the walk left, without what stayed the same during it.
 fn without_text(ends: Ends) -> EndedText
     ensures { result ≡ ended_text ends }
 {
@@ -36,7 +36,7 @@ fn without_text(ends: Ends) -> EndedText
     }
 }
 
-/// What is found in an item whose walk has come to its end there.
+/// The verdict over an item whose walk has ended in this state.
 fn ended_at(
     alloc: Global,
     unit_facts: UnitFacts,
@@ -55,7 +55,7 @@ fn ended_at(
     }
 }
 
-/// The same with what was asked.
+/// The verdict over an item whose walk has ended in this state, with what was asked.
 fn found_by<A: Answers + Drop>(
     alloc: Global,
     unit_facts: UnitFacts,
@@ -77,7 +77,7 @@ fn found_by<A: Answers + Drop>(
     }
 }
 
-/// What is found in the item of a unit from that place on.
+/// The verdict over the item of a unit, walked from this place.
 fn walk<A: Answers + Drop>(
     alloc: Global,
     unit_facts: UnitFacts,
@@ -99,7 +99,7 @@ fn walk<A: Answers + Drop>(
     }
 }
 
-/// What the private part of an item declares, from that place on.
+/// What the private part of an item declares, walked from this place.
 fn private_part_from<A: Answers + Drop>(
     alloc: Global,
     state: CheckState,
@@ -124,7 +124,7 @@ fn private_part_from<A: Answers + Drop>(
     }
 }
 
-/// What the private part of a unit declares that starts so.
+/// What the private part of a unit with this start declares.
 #[tactic(auto, unfolding(al_tree::specs::UnitViews::unit_model))]
 pub(crate) fn private_part_found<A: Answers + Drop>(
     alloc: Global,
@@ -148,7 +148,7 @@ pub(crate) fn private_part_found<A: Answers + Drop>(
     }
 }
 
-/// What is found in the item of a unit that starts so, where its private part was found to declare this.
+/// The verdict over the item of a unit with this start. `private_part` is what its private part declares.
 #[tactic(auto, unfolding(al_tree::specs::UnitViews::unit_model))]
 pub(crate) fn walk_from<A: Answers + Drop>(
     alloc: Global,

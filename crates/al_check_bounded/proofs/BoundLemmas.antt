@@ -18,7 +18,7 @@ use Rattle.al_query_outcome.specs.Tables.{no_answer}
 use Rattle.al_check_bounded.specs.Bounding.{allowed, bounded, may_ask}
 use Rattle.al_check_bounded.specs.declared.bounds.Bounds.{Bounds}
 
--- what may be asked is answered alike where the tables answer it alike
+-- what may be asked is answered alike if the tables answer it alike
 pub bounded-same : (b : Bounds) (q : Query) (t s : Table) → t q ≡ s q → bounded b t q ≡ bounded b s q
 bounded-same b q t s h = ap (λ x. cond (may_ask b q) x (no_answer q)) h
 

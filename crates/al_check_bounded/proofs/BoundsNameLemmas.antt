@@ -46,7 +46,7 @@ wider unit ns ms w (Of of IsPrivate) h = refl
 wider unit ns ms w (Of of Context) h = refl
 wider unit ns ms w (Of of NeedsBody) h = refl
 
--- ---- names that answers tell
+-- ---- names in answers
 
 names_answered-join : (log more : Log) → told_names (log ++ more) ≡ told_names log ++ told_names more
 names_answered-join log more = flat_map-join (λ e. names_told e.1) log more
@@ -82,7 +82,7 @@ asks-append unit names (e ∷ es) more =
     ∙ ap (λ (ns : List (List ℕ)). asks_by_names unit (names ++ names_told e.1) es && asks_by_names unit ns more) (append_assoc names (names_told e.1) (told_names es)))
     ∙ and-assoc (is_by_names unit names e.0) (asks_by_names unit (names ++ names_told e.1) es) (asks_by_names unit (names ++ told_names (e ∷ es)) more)
 
--- questions by names that are words, or that were told when they began
+-- questions for names that are words, or that were in answers when they began
 module _ (unit : UnitKey) (words names : List (List ℕ)) (units : List UnitKey) (wanted : Log → Query → Bool) (by : (log : Log) (q : Query) → wanted log q ≡ true → is_by_names unit names q ≡ true) where
   follows : (log es : Log) → AreWordsOrTold words log names → Follows (OfKnown units wanted) log es → asks_by_names unit (words ++ told_names log) es ≡ true
   follows log [] names_answered f = refl

@@ -1,4 +1,4 @@
--- What is asked within bounds is asked of units that are known, and by the words of the text or by names that answers tell.
+-- Questions within bounds are to known units, and for the words of the source or names from answers.
 use Rattle.std.proofs.Common.{◌≡◌, ℕ, Bool, true, List, [], ◌∷◌, ◌++◌, refl, sym, subst}
 use Rattle.al_base.specs.declared.unit_key.UnitKey.{UnitKey}
 use Rattle.al_query.specs.Asked.{AsksOf, OfKnown, by_property}
@@ -34,7 +34,7 @@ known_later named (u ∷ us) old more new is h = (
   known_later named us old more new is h.1,
 )
 
--- first what makes units known and tells names is asked for properties, then within bounds
+-- first properties are asked for, which makes units known and gives names, then questions are asked within bounds
 pub by_words : (b : Bounds) (unit : UnitKey) (words : List (List ℕ)) (named : List UnitKey) (one two three : Log) → b.unit ≡ unit → AreWordsOrTold words one b.names → AsksOf named by_property [] one → AsksOf b.known (allowed b) one two → AsksOf b.known (allowed b) two three → AsksByNames unit words three
 by_words b unit words named one two three own names_answered first second third =
     let before = asks-by-names b.unit words [] named by_property (by-property b.unit []) [] one (no_names words []) first refl in

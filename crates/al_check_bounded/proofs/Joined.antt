@@ -29,7 +29,7 @@ at_place xs i e x less is = let whole : Some x ≡ Some (get_or xs i e) = is ∙
 pub none_there : {X : Type 0} (xs : List X) (i : ℕ) (e : X) → i < length xs → None ≡ slice_get xs i → ⊥
 none_there xs i e less is = let whole : None ≡ Some (get_or xs i e) = is ∙ slice_get-get_or xs i e less in cc
 
--- what one item more gives, whichever stands for none
+-- what one item more gives, whichever value means none
 pub views-at : {X A : Type 0} (f : X → List A) (xs : List X) (i : ℕ) (e : X) (old mid new : List A) → i < length xs → mid ≡ old ++ flat_map f (take i xs) → new ≡ mid ++ f (get_or xs i e) → new ≡ old ++ flat_map f (take (i + 1) xs)
 views-at f xs i e old mid new less before now =
     now ∙ ap (λ m. m ++ f (get_or xs i e)) before ∙ append_assoc old (flat_map f (take i xs)) (f (get_or xs i e))

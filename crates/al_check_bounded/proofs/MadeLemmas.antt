@@ -1,4 +1,4 @@
--- What was walked is what the walk's record tells.
+-- What the walk left is what its record shows.
 use Rattle.std.proofs.Common.{◌≡◌, ◌∙◌, Bool, true, false, List, [], ◌∷◌, Option, Some, None, length, refl, ap, if◌then◌else◌}
 use Rattle.std.specs.Option.{option_map}
 use Rattle.al_base.specs.declared.diagnostic.Diagnostic.{Diagnostic}
@@ -31,7 +31,7 @@ inside_of w = record { line = w.line; frame = w.frame; declarations = w.declarat
 unit_of : WalkedUnit → Option Elaboration → TypedUnit
 unit_of w e = record { unit = w.unit; elaboration = e; bodies = w.bodies; words = w.words; objects = w.objects; flags = w.flags; protected_objects = w.protected_objects }
 
--- a unit in which no fault was found
+-- a unit without errors
 pub sound_is : (w : WalkedUnit) (e : Option Elaboration) → e ≡ (if same_kind w.unit.kind Sub then None else Some (inside_of w)) → sound_of (record { properties = w.properties; parts = w.parts; tree = record { unit = w.unit; elaboration = e; bodies = w.bodies; words = w.words; objects = w.objects; flags = w.flags; protected_objects = w.protected_objects } }) ≡ made w
 unfolding unit_of unit_model elaboration_model
 sound_is w e is =
@@ -43,7 +43,7 @@ pub with_kind : (r : UnitFacts) (kind : ViewKind) (e : EndedText) (inside : Walk
 unfolding finding_of inside_model
 with_kind r kind e inside = refl
 
--- faults are told where there are some
+-- errors are reported if there are some
 pub some_wrong : (ds : List Diagnostic) (v : Verdict) → (length ds ≡ 0 → ⊥) → Wrong ds ≡ unless_wrong ds v
 some_wrong [] v h = absurd (h refl)
 some_wrong (d ∷ ds) v h = refl

@@ -16,7 +16,7 @@ use Rattle.al_query_outcome.specs.Results.{Outcome, Faulty, Sound}
 use Rattle.al_query_outcome.specs.declared.interface.UnitInterface.{UnitInterface}
 use Rattle.al_check_promises.specs.SelfChecks.{is_kept, not_checked, self_checked}
 
--- faults name nothing
+-- errors name nothing
 pub faulty_names : (units : List UnitKey) (faults : List Diagnostic) → NamesOnly units (Faulty faults)
 unfolding outcome_units
 faulty_names units faults = refl
@@ -30,7 +30,7 @@ checked_names units unit shown complete i tree h = at (is_kept unit shown i tree
     at true = h
     at false = faulty_names units (not_checked unit)
 
--- what a text names is known after every log
+-- what a source names is known after every log
 pub names_known : (units : List UnitKey) (unit : UnitKey) (log : Log) (outcome : Outcome) → NamesOnly units outcome → NamesOnly (unit ∷ known_after units log) outcome
 names_known units unit log outcome h = weaker (outcome_units outcome) h
   where

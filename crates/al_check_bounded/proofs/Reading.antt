@@ -17,7 +17,7 @@ use Rattle.al_check_bounded.specs.Within.{IsChecked, meaning_within}
 use Rattle.al_check_bounded.proofs.Naming.{faulty_names}
 use Rattle.al_check_bounded.specs.Meanings.{meaning_if_unit, text_meaning}
 
--- the check of a unit with these bytes is that of its text
+-- the check of a unit with these bytes is that of its source
 pub with_bytes : (units : UnitKey → Header → Table → List UnitKey) (names : UnitKey → Header → Table → List (List ℕ)) (verdict : UnitKey → List ℕ → CompilationUnitTree → Table → Verdict) (unit : UnitKey) (bytes text : List ℕ) (tree : CompilationUnitTree) (log : Log) (outcome : Outcome)
     → bytes ≡ text → IsChecked unit (header_of tree) (meaning_within units names verdict unit bytes tree) log outcome → IsChecked unit (header_of tree) (meaning_within units names verdict unit text tree) log outcome
 with_bytes units names verdict unit bytes text tree log outcome same checked = subst (λ (t : List ℕ). IsChecked unit (header_of tree) (meaning_within units names verdict unit t tree) log outcome) same checked
@@ -28,7 +28,7 @@ module _ (units : UnitKey → Header → Table → List UnitKey) (names : UnitKe
   means found t is = ap (λ (f : Option CompilationUnitTree). meaning_if_unit units names verdict unit text f t) is
 
   module _ (log : Log) (outcome : Outcome) where
-    -- a text that is no unit
+    -- a source that is no unit
     pub no_unit : NotYetIsReported → log ≡ [] → outcome ≡ Faulty (not_checked unit) → unit_in text ≡ None → IsChecked unit (header_in text) (text_meaning units names verdict unit text) log outcome
     no_unit answered none is reads = record {
       meaning = λ t h. is ∙ sym (means None t reads);
@@ -38,7 +38,7 @@ module _ (units : UnitKey → Header → Table → List UnitKey) (names : UnitKe
       parts = λ t h. subst (λ (o : Outcome). DefinesParts unit (header_in text) t o) (sym is) tt;
     }
 
-    -- a text that is read as a unit
+    -- a source that is parsed as a unit
     pub a_unit : HeadersAreRead → UnitsAreRead → (tree : CompilationUnitTree) → unit_in text ≡ Some tree → IsChecked unit (header_of tree) (meaning_within units names verdict unit text tree) log outcome → IsChecked unit (header_in text) (text_meaning units names verdict unit text) log outcome
     a_unit headed read tree reads checked =
         let header : header_of tree ≡ header_in text = sym (headed text tree (read text tree reads).1) in

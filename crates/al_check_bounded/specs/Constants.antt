@@ -1,4 +1,4 @@
--- What every unit has, and whoever gives memory.
+-- The predefined units, and the allocator.
 use Rattle.std.specs.Global.{Global}
 use Rattle.al_overload.specs.Everywhere.{boolean_type, integer_type, time_type}
 use Rattle.al_overload.specs.declared.everywhere.Predefined.{Predefined}
@@ -12,6 +12,6 @@ predefined = record {
   types = record { boolean = boolean_type; integer = integer_type; time = time_type };
 }
 
--- there is one alone
+-- there is only one
 abbrev pub the_memory : Global
 the_memory = record { memory = record { seal = tt } }

@@ -1,4 +1,4 @@
--- What is found in the text of a unit after its end.
+-- The verdict over a unit, after the walk over it has ended.
 use Rattle.std.specs.Prelude.{◌-◌, Option, Some, None, if◌then◌else◌}
 use Rattle.std.specs.Global.{Vec}
 use Rattle.al_base.specs.declared.unit_key.UnitKind.TheVariants.{Sub}
@@ -18,7 +18,7 @@ use Rattle.al_check_bounded.specs.declared.made.WalkedUnit.{WalkedUnit}
 use Rattle.al_check_bounded.specs.declared.after.EndedText.{EndedText}
 use Rattle.al_check_bounded.specs.declared.after.UnitFacts.{UnitFacts}
 
--- the labelled unit: a subunit isn't elaborated by itself
+-- the labelled unit; a subunit has no elaboration of its own
 abbrev pub tree_at : UnitFacts → EndedText → Inside → UnitTree
 tree_at r e inside = record {
   unit = r.unit;
@@ -52,7 +52,7 @@ walked_unit r kind e declarations statements bodies = record {
   bodies = bodies;
 }
 
--- by its own view; what has none and no fault isn't checked yet
+-- by its own view; a unit that has no view and no error can't be compiled yet
 abbrev pub viewed : UnitFacts → Option ViewKind → EndedText → Inside → Verdict
 viewed r None e inside = Wrong (or_not_yet r.unit (faults_in r.unit inside.faults))
 viewed r (Some kind) e inside = unless_wrong (faults_in r.unit inside.faults) (right_at r kind e inside)

@@ -1,4 +1,4 @@
--- What is left to a unit, asked within bounds.
+-- What is left to a unit for completion, asked within bounds.
 use Rattle.std.specs.Prelude.{ℕ, Bool, true, ◌&&◌, List}
 use Rattle.std.specs.Option.{option_map_or}
 use Rattle.al_base.specs.declared.unit_key.UnitKind.{UnitKind}
@@ -18,11 +18,11 @@ use Rattle.al_check_bounded.specs.Bounding.{may_ask}
 use Rattle.al_check_bounded.specs.declared.bounds.Bounds.{Bounds}
 use Rattle.al_check_promises.specs.SelfChecks.{declares_itself, is_complete}
 
--- whether what the stub of a subunit of that name stands for may be asked, in a body of this name
+-- whether a subunit with this name may ask for the subprogram whose body its stub replaces, in a body with this name
 abbrev pub learns_in : Bounds → List ℕ → List ℕ → Table → Bool
 learns_in b parent name t = may_ask b (Of (body parent) Kind) && may_ask b (Named (body_named t parent) (Stub (last_of name)) separate)
 
--- whether a body may ask for what its declaration leaves to it, a subunit for what its stub stands for
+-- whether a body may ask for what its declaration leaves to it, and a subunit for the subprogram whose body its stub replaces
 abbrev pub learns_as : Bounds → UnitKind → List ℕ → Table → Bool
 learns_as b Decl name t = true
 learns_as b Body name t = may_ask b (Of (declaration name) Completions) && may_ask b (Of (declaration name) Kind)
@@ -31,6 +31,6 @@ learns_as b Sub name t = option_map_or (λ p. learns_in b p name t) (parent_of n
 abbrev pub learns : Bounds → Table → Bool
 learns b t = learns_as b b.unit.kind b.unit.name t
 
--- a sound unit with this header completes what it must by the answers of the table
+-- a unit without errors and with this header completes what it must by the answers of the table
 unfoldable pub completed_by : Bounds → Header → UnitInterface → UnitTree → Table → Bool
 completed_by b h i tree t = learns b t && is_complete b.unit h (views_left b.unit.kind b.unit.name t) (declares_itself b.unit t) i tree

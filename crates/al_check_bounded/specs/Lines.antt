@@ -10,12 +10,12 @@ abbrev pub specification_line : SpecificationTree → ℕ
 specification_line (ProcedureSpecification l n f) = l.line
 specification_line (FunctionSpecification l n f r m) = l.line
 
--- that of the word `private`, or else that one
+-- the line of the word `private`, or else that line
 abbrev pub private_line : Option Label → ℕ → ℕ
 private_line (Some l) line = l.line
 private_line None line = line
 
--- of a unit's item, after its context clause
+-- the line of a unit's item, after its context clause
 abbrev pub item_line : LibraryItemTree → ℕ
 item_line (LibrarySubprogram p s) = private_line p (specification_line s)
 item_line (LibraryPackage p l k) = private_line p l.line

@@ -1,4 +1,4 @@
--- What is found in the text of a unit, by what was walked.
+-- The verdict over a unit, from what the walk left.
 use Rattle.std.specs.Prelude.{List, [], ◌∷◌, map, Some, None, if◌then◌else◌}
 use Rattle.al_base.specs.Batch.{key_of}
 use Rattle.al_base.specs.FileNames.{file_name_of}
@@ -19,14 +19,14 @@ use Rattle.al_check_bounded.specs.Verdicts.{Verdict}
 use Rattle.al_check_bounded.specs.Verdicts.Verdict.{Wrong, Right}
 use Rattle.al_check_bounded.specs.declared.made.WalkedUnit.{WalkedUnit}
 
--- a fault in the unit's own file
+-- an error in the unit's own file
 abbrev pub fault_in : UnitKey → Fault → Diagnostic
 fault_in unit f = record { file = file_name_of (key_of unit); place = f.place; code = rule_number f.rule }
 
 abbrev pub faults_in : UnitKey → FaultList → List Diagnostic
 faults_in unit faults = map (fault_in unit) (all_faults faults)
 
--- E700, where nothing is
+-- E700, if there is no error
 abbrev pub or_not_yet : UnitKey → List Diagnostic → List Diagnostic
 or_not_yet unit [] = not_checked unit
 or_not_yet unit (d ∷ ds) = d ∷ ds
@@ -50,7 +50,7 @@ tree_of w = record {
 abbrev pub made : WalkedUnit → Verdict
 made w = Right (interface_of w.properties w.parts) (tree_of w)
 
--- what is wrong, where something is
+-- the errors, if there are any; else the unit
 abbrev pub unless_wrong : List Diagnostic → Verdict → Verdict
 unless_wrong [] v = v
 unless_wrong (d ∷ ds) v = Wrong (d ∷ ds)

@@ -1,4 +1,4 @@
--- What a checker makes of a text, by whoever finds what it says.
+-- The outcome that a checker gives to a source, by any finder.
 use Rattle.std.specs.Prelude.{ℕ, List, Option, Some, None}
 use Rattle.al_base.specs.declared.unit_key.UnitKey.{UnitKey}
 use Rattle.al_tree_syntax.specs.UnitTrees.{CompilationUnitTree}
@@ -14,6 +14,6 @@ abbrev pub meaning_if_unit : (UnitKey → Header → Table → List UnitKey) →
 meaning_if_unit units names verdict unit text (Some tree) t = meaning_within units names verdict unit text tree t
 meaning_if_unit units names verdict unit text None t = Faulty (not_checked unit)
 
--- the outcome of a unit with a text under a table; a text in which no unit is read can't be compiled
+-- the outcome of a unit with a source under a table; a source in which no unit is parsed can't be compiled
 unfoldable pub text_meaning : (UnitKey → Header → Table → List UnitKey) → (UnitKey → Header → Table → List (List ℕ)) → (UnitKey → List ℕ → CompilationUnitTree → Table → Verdict) → UnitKey → List ℕ → Table → Outcome
 text_meaning units names verdict unit text t = meaning_if_unit units names verdict unit text (unit_in text) t

@@ -22,7 +22,7 @@ answer_views (answers.Kind view) = view ∷ []
 answer_views (answers.Completions completions) = map (λ c. c.view) completions
 answer_views _ = []
 
--- all parts of a unit, and what stands before each of these stubs
+-- all parts of a unit, and what is declared before each of these stubs
 abbrev pub parts_of : List (List ℕ) → List Part
 parts_of stubs = Visible ∷ Private ∷ Body ∷ map Stub stubs
 
@@ -30,7 +30,7 @@ parts_of stubs = Visible ∷ Private ∷ Body ∷ map Stub stubs
 abbrev pub named_in : UnitKey → List (List ℕ) → Part → List Query
 named_in unit names part = map (Named unit part) names
 
--- of a unit: what it is, what its body must complete, and each name in each part
+-- for a unit: what it is, what its body must complete, and each name in each part
 abbrev pub of_unit : Wanted → UnitKey → List Query
 of_unit w unit = Of unit property.Kind ∷ Of unit property.Completions ∷ flat_map (named_in unit w.names) (parts_of w.stubs)
 
@@ -52,17 +52,17 @@ is_wanted w (Of unit property.Kind) = has_unit w.units unit
 is_wanted w (Of unit property.Completions) = has_unit w.units unit
 is_wanted w (Of unit _) = false
 
--- the views in a recorded answer, where the question is one of these
+-- the views in a recorded answer, if its question is one of these
 abbrev pub shown_in : Wanted → Query × AnswerKind → List ViewKind
 shown_in w e = if is_wanted w e.0 then answer_views e.1 else []
 
 abbrev pub recorded_views : Wanted → Log → List ViewKind
 recorded_views w log = flat_map (shown_in w) log
 
--- each of these views is shown by whatever table agrees with the log
+-- each of these views is shown by every table that agrees with the log
 abbrev pub AreShown : Wanted → Log → List ViewKind → Type 0
 AreShown w log views = HoldsBy log (λ t. (v : ViewKind) → Contains views v → Contains (shown_by w t) v)
 
--- each view that is shown stands in an answer of the table
+-- each view that is shown is in an answer of the table
 abbrev pub ShownViewsAreAnswered : Type 0
 ShownViewsAreAnswered = (w : Wanted) (t : Table) (v : ViewKind) → Contains (shown_by w t) v → (q : Query) × Contains (answer_views (t q)) v

@@ -1,4 +1,4 @@
--- What a unit says of itself, by its text and its place.
+-- What a unit says of itself, by its source and its place.
 use Rattle.std.specs.Prelude.{List, Option, Some, None, slice_get, if◌then◌else◌}
 use Rattle.al_view.specs.declared.view.ViewKind.{ViewKind}
 use Rattle.al_view.specs.declared.view.ViewKind.TheVariants.{OfPackage}
@@ -11,7 +11,7 @@ abbrev pub view_by : Option Declaration → Option ViewKind → Option ViewKind
 view_by (Some d) completed = Some d.view
 view_by None completed = completed
 
--- the own view of a subprogram: as its own text declares it, or else that of what its body completes
+-- the own view of a subprogram: that which its own declaration gives, or else that of the declaration which its body completes
 abbrev pub view_of_subprogram : List Declaration → Option ViewKind → Option ViewKind
 view_of_subprogram declared completed = view_by (slice_get declared 0) completed
 

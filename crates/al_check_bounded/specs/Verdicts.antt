@@ -1,4 +1,4 @@
--- What is found in the text of a unit.
+-- The verdict over a unit.
 use Rattle.std.specs.Prelude.{List, ⊤}
 use Rattle.al_base.specs.declared.diagnostic.Diagnostic.{Diagnostic}
 use Rattle.al_base.specs.declared.unit_key.UnitKey.{UnitKey}
@@ -11,7 +11,7 @@ use Rattle.al_check_promises.specs.declared.checked.SoundUnit.{SoundUnit}
 use Rattle.al_check_bounded.specs.declared.finding.UnitVerdict.{UnitVerdict}
 use Rattle.al_check_bounded.specs.declared.finding.UnitVerdict.TheVariants.{Faulty, Sound}
 
--- what is wrong; or what it answers to others, with its labelled tree
+-- its errors; or what it answers to others, with its labelled tree
 pub data Verdict : Type 0 where
   Wrong : List Diagnostic → Verdict
   Right : UnitInterface → UnitTree → Verdict
@@ -23,12 +23,12 @@ abbrev pub verdict_of : UnitVerdict → Verdict
 verdict_of (Faulty faults) = Wrong faults
 verdict_of (Sound s) = sound_of s
 
--- what is found names no unit but these
+-- the verdict names no unit but these
 abbrev pub NamesWithin : List UnitKey → Verdict → Type 0
 NamesWithin units (Wrong faults) = ⊤
 NamesWithin units (Right i tree) = NamesOnly units (outcome.Sound i tree)
 
--- what is wrong with the unit is something, each of it in its own file and of a rule of checks
+-- a faulty unit has at least one error, and each is in its own file and has a number of the check
 abbrev pub IsTold : UnitKey → Verdict → Type 0
 IsTold unit (Wrong faults) = FaultsFit unit (outcome.Faulty faults)
 IsTold unit (Right i tree) = ⊤

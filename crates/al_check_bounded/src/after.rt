@@ -1,4 +1,4 @@
-// What is found in the text of a unit after its end.
+// The verdict over a unit, after the walk over it has ended.
 ghost use Rattle.std.specs.Prelude.{◌≡◌, Some, IfOk};
 ghost use Rattle.al_stmts.specs.WalkedViews.{inside_model};
 ghost use Rattle.al_check_bounded.specs.Verdicts.{verdict_of};
@@ -20,15 +20,21 @@ use al_view::{Seq, View};
 use al_view_typed::{TypedBody, TypedDeclaration, TypedStatement};
 use std::alloc::Global;
 
-/// What is known of a unit before its text is walked: whether it needs a body, the line of its first token, its parent, the units that
-/// its with clauses name, the view that it completes, and the private types that its visible part declares.
+/// What is known of a unit before the walk over it.
 pub struct UnitFacts {
+    /// The unit.
     pub unit: UnitKey,
+    /// Whether it is a declaration that needs a body.
     pub needs_body: bool,
+    /// The line of its first token.
     pub line: usize,
+    /// Its parent, if it has one.
     pub parent: Option<UnitKey>,
+    /// The units that its with clauses name.
     pub withs: Seq<UnitKey>,
+    /// The view that it completes, if it completes one.
     pub view: Option<View>,
+    /// The private types that its visible part declares.
     pub private_types: Seq<Name>,
 }
 
@@ -47,7 +53,7 @@ impl Drop for UnitFacts {
 }
 
 impl UnitFacts {
-    // The unit, its parent, the units of its with clauses and its private types.
+    // The unit, its parent, the units of its with clauses, and its private types.
     fn into_parts(self) -> (UnitKey, Option<UnitKey>, Seq<UnitKey>, Seq<Name>)
         ensures { result ≡ (self.unit, self.parent, self.withs, self.private_types) }
     {
@@ -64,17 +70,19 @@ impl UnitFacts {
     }
 }
 
-/// What the walk over a unit's text left.
+/// What the walk over a unit left.
 pub struct EndedText {
+    /// The unit's own header.
     pub own: OwnText,
-    /// The unit's words, its objects, its flags and its protected objects.
+    /// The words, objects, flags and protected objects that the unit takes.
     pub progress: Progress,
-    /// What its declaration leaves to its body.
+    /// The declarations that the unit leaves to its body to complete.
     pub completions: Seq<Completion>,
+    /// What its parts declare, and its stubs.
     pub parts: Parts,
-    /// The use clauses that stand immediately in its parts.
+    /// The use clauses that are immediately in its parts.
     pub uses: Seq<UseInPart>,
-    /// Of a library subprogram, or of a body that acts as its declaration, its name with its own view.
+    /// The unit's own name and view, if it is a library subprogram's declaration, or a body that acts as one.
     pub declared: Seq<Declaration>,
 }
 
@@ -92,7 +100,7 @@ impl Drop for EndedText {
 }
 
 impl EndedText {
-    // All but the declarations of its name.
+    // All fields except the declarations of its name.
     fn into_parts(self) -> (OwnText, Progress, Seq<Completion>, Parts, Seq<UseInPart>)
         ensures { result ≡ (self.own, self.progress, self.completions, self.parts, self.uses) }
     {
@@ -149,7 +157,7 @@ fn walked_unit(
     }
 }
 
-/// The unit with its own view, unless something is wrong with it.
+/// The verdict over a unit that has a view.
 fn with_view(
     alloc: Global,
     unit_facts: UnitFacts,
@@ -170,7 +178,7 @@ fn with_view(
 }
 
 #[tactic(auto, unfolding(al_stmts::specs::WalkedViews::inside_model))]
-/// What is wrong with a unit that has no view.
+/// The verdict over a unit that has no view: its errors, or E700.
 fn without_view(
     alloc: Global,
     unit_facts: UnitFacts,
@@ -187,7 +195,10 @@ fn without_view(
     }
 }
 
-/// What is found in the text of a unit after its end.
+/// The verdict over a unit, after the walk over it has ended.
+///
+/// # Errors
+/// `NoMemory` if the allocator refuses memory.
 #[tactic(auto, unfolding(crate::specs::Ended::ended))]
 pub fn found_after(
     alloc: Global,

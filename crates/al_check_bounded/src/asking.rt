@@ -1,4 +1,4 @@
-// Asking each question again.
+// Asks each wanted question.
 ghost use Rattle.std.specs.Prelude.{◌≡◌, ◌++◌, IfOk, OnOk};
 ghost use Rattle.std.specs.List.{flat_map};
 ghost use Rattle.al_query.specs.Reads.{FromAnswers};
@@ -38,7 +38,10 @@ fn ask_each<A: Answers>(
     Ok(())
 }
 
-/// The views in the answers to all of these questions, which are asked.
+/// The views in the answers to all of these questions, each of which is asked.
+///
+/// # Errors
+/// `NoMemory` if the allocator refuses memory.
 #[tactic(auto, unfolding(crate::specs::Questions::shown_by))]
 pub fn asked_again<A: Answers>(
     alloc: Global,

@@ -17,7 +17,7 @@ use al_query_outcome::{Checked, UnitCheck};
 use al_unit::AdaText;
 use std::alloc::Global;
 
-/// Checks units with whoever finds what their texts say, and counts the checks.
+/// A checker of units: its finder gives verdicts, and the checks are counted.
 pub struct BoundedCheck<F: UnitFinder> {
     finder: F,
     checks: u64,
@@ -33,7 +33,7 @@ impl<F: UnitFinder + Drop> Drop for BoundedCheck<F> {
 }
 
 impl<F: UnitFinder> BoundedCheck<F> {
-    /// A checker that made no check.
+    /// A checker that has made no check.
     pub fn new(finder: F) -> BoundedCheck<F>
         ensures finder { result.finder ≡ finder }
         ensures checks { result.checks ≡ 0 }
@@ -41,9 +41,12 @@ impl<F: UnitFinder> BoundedCheck<F> {
         BoundedCheck { finder, checks: 0 }
     }
 
-    /// Checks a unit with its text, as it was read. Beside what is promised of every checker, whatever the finder asks:
-    /// - `names`: each question is by a word of the text, an operator's sign too, or by a name that an earlier answer tells, or for a property
-    ///   of a unit; that for what a body must complete is of the unit's own declaration.
+    /// Checks a unit, from its source as it was parsed. This holds beside what every checker promises, whatever the finder asks:
+    /// - `names`: each question is for a name that is a word of the source (an operator's symbol too) or comes from an earlier answer, or is for a
+    ///   property of a unit. The question what a body must complete goes to the unit's own declaration.
+    ///
+    /// # Errors
+    /// `NoMemory` if the allocator refuses memory.
     pub fn check_unit<A: Answers>(
         &mut self,
         alloc: Global,

@@ -1,4 +1,4 @@
-// A table with bounds.
+// Bounds on what a unit may ask.
 ghost use Rattle.std.specs.Prelude.{◌≡◌};
 ghost use Rattle.al_query.specs.Answers.{declaration};
 ghost use Rattle.al_query.specs.Queries.{unit_of};
@@ -13,13 +13,13 @@ use al_query_outcome::no_answer;
 use al_view::is_unit;
 use std::alloc::Global;
 
-/// What a unit may ask.
+/// The questions that a unit may ask.
 pub struct Bounds {
-    /// The unit that asks, which isn't asked itself.
+    /// The unit that asks. It isn't asked itself.
     pub unit: UnitKey,
     /// The units that it knows.
     pub known: UnitSet,
-    /// The names that it may ask for: the words of its text, and names that answers tell.
+    /// The names that it may ask for: the words of its source, and names from answers.
     pub names: NameSet,
 }
 
@@ -33,7 +33,7 @@ impl Drop for Bounds {
     }
 }
 
-/// Whether the first unit is the declaration of the other one's name.
+/// Whether the first unit is the declaration with the other one's name.
 fn is_declaration_of(unit: &UnitKey, other: &UnitKey) -> bool
     ensures { result ≡ same_unit unit.now (declaration other.now.name) }
 {
@@ -41,7 +41,7 @@ fn is_declaration_of(unit: &UnitKey, other: &UnitKey) -> bool
 }
 
 impl Bounds {
-    /// Whether the question is by one of the names, or for a property; for what a body must complete, of the unit's own declaration.
+    /// Whether the question is for one of the names, or for a property. What a body must complete may be asked only of the unit's own declaration.
     fn is_by_names(&self, query: &Query) -> bool
         ensures { result ≡ is_by_names self.now.unit self.now.names query.now }
     {
@@ -55,8 +55,7 @@ impl Bounds {
         }
     }
 
-    /// Whether the question may be asked: it is of a unit that is known, and of another than the one that asks, and by one of the names
-    /// or for a property.
+    /// Whether the question may be asked: it is of a known unit other than the one that asks, and for one of the names or for a property.
     pub fn may_ask(&self, query: &Query) -> bool
         ensures { result ≡ may_ask self.now query.now }
     {
@@ -65,14 +64,17 @@ impl Bounds {
     }
 }
 
-/// Who is asked, within bounds: a question that may not be asked has the answer of a unit that isn't there, and isn't asked.
+/// A source of answers within bounds. A question that may not be asked isn't asked: its answer is that of a unit that doesn't exist.
 pub struct Bounded<'a, A: Answers> {
+    /// The allocator of answers that aren't asked for.
     pub alloc: Global,
+    /// The source of answers.
     pub asked: &'a A,
+    /// The bounds.
     pub bounds: &'a Bounds,
 }
 
-// Written out, as a derive would want that who is asked may be let go, of whom it holds a reference alone.
+// Written out: a derived `Drop` would require that the source of answers can be dropped, though only a reference to it is held.
 impl<A: Answers> Drop for Bounded<'_, A> {
     fn drop(self) {
         let Bounded {

@@ -27,7 +27,7 @@ use al_unit_graph::Header;
 use al_view::copied_unit;
 use std::alloc::Global;
 
-/// The names that may be asked for: the words of the text, and the names that answers tell.
+/// The names that may be asked for: the words of the source, and names from answers.
 fn names_of<F: UnitFinder, A: Answers>(
     alloc: Global,
     finder: &F,
@@ -49,7 +49,7 @@ fn names_of<F: UnitFinder, A: Answers>(
     Ok(names)
 }
 
-/// What may be asked: the units that are known, by the words of the text and by the names that answers tell.
+/// The bounds of a unit: the units that it knows, the words of its source, and names from answers.
 fn bounds_of<F: UnitFinder, A: Answers>(
     alloc: Global,
     finder: &F,
@@ -74,7 +74,7 @@ fn bounds_of<F: UnitFinder, A: Answers>(
     })
 }
 
-/// What is found in the text of a unit within bounds.
+/// The verdict over a unit, found within its bounds.
 fn found_within<F: UnitFinder, A: Answers>(
     alloc: Global,
     finder: &F,
@@ -105,8 +105,10 @@ fn found_within<F: UnitFinder, A: Answers>(
     Ok(found)
 }
 
-/// The check of a unit with this text, which is read as this tree with this header: whoever finds what it says asks within bounds, and the
-/// result is tested.
+/// Checks a unit with this source, parsed to this tree with this header: the finder asks within the unit's bounds, and its verdict is tested.
+///
+/// # Errors
+/// `NoMemory` if the allocator refuses memory.
 pub fn check_within<F: UnitFinder, A: Answers>(
     alloc: Global,
     finder: &F,

@@ -1,4 +1,4 @@
-// What the check of a unit gives.
+// The result of the check of a unit.
 ghost use Rattle.std.specs.Prelude.{◌≡◌, List, IfOk, OnOk};
 ghost use Rattle.al_base.specs.declared.unit_key.UnitKey.{UnitKey};
 ghost use Rattle.al_view_typed.specs.UnitTrees.{unit_model};
@@ -25,7 +25,7 @@ use al_query_outcome::Checked;
 use al_unit_graph::Header;
 use std::alloc::Global;
 
-/// What the check of a unit gives in which no fault was found.
+/// The result of the check of a unit without errors.
 fn sound_within<A: Answers>(
     alloc: Global,
     bounds: &Bounds,
@@ -53,7 +53,7 @@ fn sound_within<A: Answers>(
     self_checked(alloc, &bounds.unit, shown.as_slice(), complete, sound)
 }
 
-/// What the check of a unit gives with what was found, after what was asked for it.
+/// The result of the check of a unit, from its verdict and what was asked for it.
 pub(crate) fn concluded_within<A: Answers>(
     alloc: Global,
     bounds: &Bounds,

@@ -1,4 +1,4 @@
-// Faults in the unit's own file.
+// Errors as diagnostics of the unit's own file.
 ghost use Rattle.std.specs.Prelude.{◌≡◌, IfOk, map};
 ghost use Rattle.al_check_bounded.specs.Made.{fault_in, faults_in, or_not_yet};
 
@@ -9,7 +9,10 @@ use al_stmts::FaultList;
 use al_view::Seq;
 use std::alloc::Global;
 
-/// A fault in the unit's own file.
+/// The diagnostic for an error in the unit's own file.
+///
+/// # Errors
+/// `NoMemory` if the allocator refuses memory.
 pub fn diagnostic(alloc: Global, unit: &UnitKey, fault: &Fault) -> Result<Diagnostic, NoMemory>
     ensures { IfOk result (λ d. d ≡ fault_in unit.now fault.now) }
 {
@@ -32,7 +35,10 @@ fn diagnostics(alloc: Global, unit: &UnitKey, faults: &[Fault]) -> Result<Seq<Di
     Ok(found)
 }
 
-/// All faults of a list, each in the unit's own file.
+/// The diagnostics for all errors of a list, each in the unit's own file.
+///
+/// # Errors
+/// `NoMemory` if the allocator refuses memory.
 pub fn faults_in(
     alloc: Global,
     unit: &UnitKey,
@@ -44,7 +50,7 @@ pub fn faults_in(
     diagnostics(alloc, unit, all.as_slice())
 }
 
-/// These, or E700 where there are none.
+/// These diagnostics, or E700 if there are none.
 fn or_not_yet(
     alloc: Global,
     unit: &UnitKey,
@@ -60,7 +66,7 @@ fn or_not_yet(
     }
 }
 
-/// All faults of a list, each in the unit's own file; E700 where there are none.
+/// The diagnostics for all errors of a list, each in the unit's own file; E700 if there are none.
 pub(crate) fn wrong_or_not_yet(
     alloc: Global,
     unit: &UnitKey,

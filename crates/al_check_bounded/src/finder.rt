@@ -1,4 +1,4 @@
-// Who finds what the text of a unit says.
+// The interface of a finder, which gives the verdict over a unit.
 ghost use Rattle.std.specs.Prelude.{◌≡◌, ◌≤◌, IfOk, OnOk, length};
 ghost use Rattle.al_tree.specs.UnitViews.{unit_model};
 ghost use Rattle.al_unit_graph.specs.Views.{header_model};
@@ -17,7 +17,7 @@ use al_tree::CompilationUnit;
 use al_unit_graph::Header;
 use std::alloc::Global;
 
-/// Finds what the text of a unit says.
+/// A finder: it gives the verdict over a unit, by what it asks of other units.
 pub trait UnitFinder {
     ghost use Rattle.std.specs.Prelude.{List, ℕ};
     ghost use Rattle.al_base.specs.declared.unit_key.UnitKey.{UnitKey};
@@ -27,20 +27,23 @@ pub trait UnitFinder {
     ghost use Rattle.al_query.specs.declared.query.Query.{Query};
     ghost use Rattle.al_check_bounded.specs.Verdicts.{Verdict};
 
-    /// The units that may be asked for a unit with this header, under a table.
+    /// The units that may be asked for a unit with this header, under a table of answers.
     ghost units: { UnitKey → plain.Header → (Query → AnswerKind) → List UnitKey };
 
-    /// The names that answers tell and that may be asked for beside the words of its text, under a table.
+    /// The names from answers that may be asked for, beside the words of the unit's source, under a table of answers.
     ghost names: { UnitKey → plain.Header → (Query → AnswerKind) → List (List ℕ) };
 
-    /// What is found in the text of a unit, which is read as this tree, under a table.
+    /// The verdict over a unit with this source, parsed to this tree, under a table of answers.
     ghost verdict: { UnitKey → List ℕ → CompilationUnitTree → (Query → AnswerKind) → Verdict };
 
-    /// The units that may be asked, which are asked for first.
-    /// - `asked`: who is asked stays the same.
+    /// The units that may be asked. This is called before the others.
+    /// - `asked`: the source of answers stays the same.
     /// - `answered`: under every table that agrees with the log these are the units.
-    /// - `asks`, `others`: each question is of another unit, which the unit's text names (ARM 10.1.1(26)) or an earlier answer does.
-    /// - `known`: so each of these units is known then.
+    /// - `asks`, `others`: each question is of another unit, which the unit's source names (ARM 10.1.1(26)) or an earlier answer does.
+    /// - `known`: each of these units is named by the unit's source or by a recorded answer.
+    ///
+    /// # Errors
+    /// `NoMemory` if the allocator refuses memory.
     fn units_known<A: Answers>(
         &self,
         alloc: Global,
@@ -54,10 +57,12 @@ pub trait UnitFinder {
         ensures others { OnOk result (AsksOthers unit.now recorder.old.log → AsksOthers unit.now recorder.new.log) }
         ensures known { IfOk result (λ known. AreKnown (known_after (named_by (header_model header.now)) recorder.new.log) known.items) };
 
-    /// The names that may be asked for beside the words of the text.
-    /// - `asked`, `asks`, `others`: as of the units.
-    /// - `answered`: under every table that agrees with the log these are the names.
-    /// - `answered`: so an answer has told each of these names then.
+    /// The names that may be asked for, beside the words of the source.
+    /// - `asked`, `asks`, `others`: as for `units_known`.
+    /// - `answered`: under every table that agrees with the log these are the names, and each is in a recorded answer.
+    ///
+    /// # Errors
+    /// `NoMemory` if the allocator refuses memory.
     fn names_known<A: Answers>(
         &self,
         alloc: Global,
@@ -71,11 +76,14 @@ pub trait UnitFinder {
         ensures others { OnOk result (AsksOthers unit.now recorder.old.log → AsksOthers unit.now recorder.new.log) }
         ensures names_answered { IfOk result (λ known. AreTold recorder.new.log known.items) };
 
-    /// What is found in the text of a unit, which is read as this tree, with what was asked for it.
-    /// - `agrees`: who is asked gives the recorded answers.
-    /// - `answered`: under every table that agrees with the log the same is found.
-    /// - `names`: its parent and the units of its with clauses are such as its text names.
-    /// - `faults`: what is wrong is something, each of it in the unit's own file and of a rule of checks.
+    /// The verdict over a unit with this source, parsed to this tree, with what was asked for it.
+    /// - `agrees`: the recorded answers are those of the source of answers.
+    /// - `answered`: under every table that agrees with the log the verdict is the same.
+    /// - `names`: its parent and the units of its with clauses are named by its source.
+    /// - `faults`: a faulty unit has at least one error, and each is in the unit's own file and has a number of the check.
+    ///
+    /// # Errors
+    /// `NoMemory` if the allocator refuses memory.
     fn find<A: Answers + Drop>(
         &self,
         alloc: Global,

@@ -1,4 +1,4 @@
-// What is left to a unit, asked within bounds (ARM 3.11.1, 10.1.3).
+// What is left to a unit for completion, asked within its bounds (ARM 3.11.1, 10.1.3).
 ghost use Rattle.std.specs.Prelude.{◌≡◌, ◌&&◌, IfOk, OnOk, if◌then◌else◌, is_some, map};
 ghost use Rattle.std.specs.Option.{option_copied};
 ghost use Rattle.al_base.specs.declared.unit_key.UnitKind.TheVariants.{Body, Sub};
@@ -27,7 +27,7 @@ use al_unit_graph::{Header, parent_of};
 use al_view::{Part, Seq, View};
 use std::alloc::Global;
 
-/// The question of the declaration, the body or the subunit of that name for a property.
+/// The question for a property of the declaration, the body or the subunit with this name.
 fn of_unit(
     alloc: Global,
     name: &[u8],
@@ -52,7 +52,7 @@ fn views_of(alloc: Global, completions: &[Completion]) -> Result<Seq<View>, NoMe
     Ok(views)
 }
 
-/// The first of some views, if any.
+/// The first of these views, if any.
 fn first_view(views: &[View]) -> Result<Option<View>, NoMemory>
     ensures { IfOk result (λ view. view ≡ first_view views.now) }
 {
@@ -62,7 +62,7 @@ fn first_view(views: &[View]) -> Result<Option<View>, NoMemory>
     }
 }
 
-/// The view, if there is one.
+/// A list of the view, if there is one.
 fn one_view(alloc: Global, view: Option<View>) -> Result<Seq<View>, NoMemory>
     ensures { IfOk result (λ views. views ≡ one_view view) }
 {
@@ -76,7 +76,7 @@ fn one_view(alloc: Global, view: Option<View>) -> Result<Seq<View>, NoMemory>
     }
 }
 
-/// What the declaration of that name leaves to its body.
+/// What the declaration with this name leaves to its body.
 fn left_by_declaration<A: Answers>(
     alloc: Global,
     bounds: &Bounds,
@@ -104,7 +104,7 @@ fn is_there(view: Option<&View>) -> bool
     }
 }
 
-/// Whether the unit of that name and kind says what it is.
+/// Whether the unit with this name and kind exists: it answers what it is.
 fn has_view<A: Answers>(
     alloc: Global,
     bounds: &Bounds,
@@ -122,7 +122,7 @@ fn has_view<A: Answers>(
     Ok(is_there(answer.own_view()))
 }
 
-/// The body of that name, or the subunit.
+/// The unit with this name: a body, or a subunit.
 fn named(alloc: Global, name: &[u8], is_body: bool) -> Result<UnitKey, NoMemory>
     ensures { IfOk result (λ unit. unit ≡ (if is_body then body name.now else subunit name.now)) }
 {
@@ -135,7 +135,7 @@ fn named(alloc: Global, name: &[u8], is_body: bool) -> Result<UnitKey, NoMemory>
     Ok(UnitKey { name, kind })
 }
 
-/// The question for what the stub of a subunit of that name stands for, in the body of this name or else in the subunit.
+/// The question for the subprogram whose body a stub with this name replaces, in the body with the parent's name or else in the subunit.
 fn stub_question(
     alloc: Global,
     parent: &[u8],
@@ -157,14 +157,14 @@ fn both(one: bool, other: bool) -> bool
     one && other
 }
 
-/// What is left to a unit, and whether it may ask for it.
+/// What is left to a unit for completion, and whether the unit's bounds allow it to ask for that.
 #[derive(Drop)]
 struct Left {
     views: Seq<View>,
     is_learned: bool,
 }
 
-/// Whether the unit of that name and kind may be asked for a property.
+/// Whether the unit with this name and kind may be asked for a property.
 fn may_ask_of(
     alloc: Global,
     bounds: &Bounds,
@@ -178,7 +178,7 @@ fn may_ask_of(
     Ok(bounds.may_ask(&query))
 }
 
-/// Whether the declaration of that name may be asked what it leaves to its body, and what it is.
+/// Whether the declaration with this name may be asked what it leaves to its body, and what it is.
 fn may_ask_declaration(alloc: Global, bounds: &Bounds, name: &[u8]) -> Result<bool, NoMemory>
     ensures { IfOk result (λ b. b ≡ (may_ask bounds.now (Of (declaration name.now) Completions) && may_ask bounds.now (Of (declaration name.now) Kind))) }
 {
@@ -205,7 +205,8 @@ fn first_within<A: Answers>(
     Ok(views)
 }
 
-/// What the stub of the unit stands for, in the body of this name or else in the subunit; it may be asked where that one's kind may.
+/// The subprogram whose body the stub of the unit replaces, in the body with the parent's name or else in the subunit. It may be asked if the kind
+/// of that unit may be.
 fn stub_left<A: Answers>(
     alloc: Global,
     bounds: &Bounds,
@@ -226,7 +227,7 @@ fn stub_left<A: Answers>(
     Ok(Left { views, is_learned })
 }
 
-/// What is left to a body.
+/// What is left to a body for completion.
 fn left_to_body<A: Answers>(
     alloc: Global,
     bounds: &Bounds,
@@ -243,7 +244,7 @@ fn left_to_body<A: Answers>(
     Ok(Left { views, is_learned })
 }
 
-/// What is left to a subunit with this parent body.
+/// What is left to a subunit with this parent body for completion.
 fn left_in<A: Answers>(
     alloc: Global,
     bounds: &Bounds,
@@ -260,7 +261,7 @@ fn left_in<A: Answers>(
     stub_left(alloc, bounds, parent, is_body, kind, recorder)
 }
 
-/// What is left to a subunit.
+/// What is left to a subunit for completion.
 fn left_to_subunit<A: Answers>(
     alloc: Global,
     bounds: &Bounds,
@@ -280,7 +281,7 @@ fn left_to_subunit<A: Answers>(
     }
 }
 
-/// What is left to the unit.
+/// What is left to the unit for completion.
 fn left_to<A: Answers>(
     alloc: Global,
     bounds: &Bounds,
@@ -301,7 +302,7 @@ fn left_to<A: Answers>(
     }
 }
 
-/// Whether the unit's text is that of its declaration.
+/// Whether the unit is a declaration, or a body that acts as one.
 fn declares_itself<A: Answers>(
     alloc: Global,
     bounds: &Bounds,
@@ -323,7 +324,8 @@ fn declares_itself<A: Answers>(
     }
 }
 
-/// Whether a sound unit with this header completes what its declaration or its parent body leaves to it, and leaves to others what it may.
+/// Whether a unit without errors and with this header completes what its declaration or its parent body leaves to it, and leaves to others only what
+/// it may.
 pub(crate) fn completed_by<A: Answers>(
     alloc: Global,
     bounds: &Bounds,

@@ -1,5 +1,13 @@
-//! A checker of units, of whoever finds what their texts say: it asks within bounds, and tests the result; and what a check leaves, put
-//! together from what was found.
+//! A checker of units over any *finder*, which gives the verdict over a unit by what it asks of others. The checker bounds what may be asked, and
+//! tests the verdict.
+//!
+//! - `bounded_check` and `texts` are the checker; `finder` is the interface of a finder.
+//! - *Bounds* (`bounds`, `words`, `name_set`, `unit_set`) say which units a unit may ask, and for which names. `checking` asks within them, and
+//!   `replayed` records what was asked.
+//! - The views that a unit was *shown* (`wanted`, `queries`, `asking`, `recorded`, `shown`) and what is *left* to it for completion (`left`) decide
+//!   in `concluding` whether the unit is what a check promises.
+//! - For finders: `said`, `after` and `made` put the verdict (`finding`) together from what the walk over a unit left; `faults` makes diagnostics of
+//!   errors.
 #![tactic(auto)]
 
 mod after;

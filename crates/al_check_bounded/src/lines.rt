@@ -17,7 +17,7 @@ fn specification_line(specification: &Specification) -> usize
     }
 }
 
-/// The line of the word `private`, or else that one.
+/// The line of the word `private`, or else `line`.
 fn private_line(opening: &Option<Place>, line: usize) -> usize
     ensures { result ≡ private_line (option_map place_label opening.now) line }
 {

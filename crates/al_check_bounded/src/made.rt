@@ -1,4 +1,4 @@
-// What was walked, put together.
+// Verdicts, put together from what the walk over a unit left.
 ghost use Rattle.std.specs.Prelude.{◌≡◌, [], None, Some, IfOk, if◌then◌else◌};
 ghost use Rattle.al_base.specs.declared.diagnostic.Diagnostic.{Diagnostic};
 ghost use Rattle.al_base.specs.declared.unit_key.UnitKind.TheVariants.{Sub};
@@ -18,11 +18,14 @@ use al_view_typed::{
 };
 use std::alloc::Global;
 
-/// A unit whose text was walked to its end.
+/// A unit over which the walk has ended.
 #[derive(Drop)]
 pub struct WalkedUnit {
+    /// The unit.
     pub unit: UnitKey,
+    /// What it says of itself.
     pub properties: Properties,
+    /// What its parts declare, and its stubs.
     pub parts: Parts,
     /// The line of its first token.
     pub line: usize,
@@ -30,12 +33,17 @@ pub struct WalkedUnit {
     pub frame: u32,
     /// The words of its objects, flags and protected objects.
     pub words: u32,
+    /// The places of its objects.
     pub objects: Seq<DataPlace>,
+    /// The places of its flags.
     pub flags: Seq<DataPlace>,
+    /// The words of its protected objects.
     pub protected_objects: Seq<ProtectedWords>,
-    /// What its declarations do, and its statements; none of a subunit.
+    /// What its declarations do at run time, and its statements; a subunit has neither.
     pub declarations: Vec<TypedDeclaration>,
+    /// The statements of its elaboration.
     pub statements: Vec<TypedStatement>,
+    /// Its bodies.
     pub bodies: Vec<TypedBody>,
 }
 
@@ -53,7 +61,7 @@ fn elaboration_of(unit: &UnitKey, inside: Elaboration) -> Option<Elaboration>
     }
 }
 
-/// A unit in which no fault was found.
+/// A unit without errors.
 #[tactic(auto, unfolding(al_view_typed::specs::UnitTrees::unit_model, al_view_typed::specs::UnitTrees::elaboration_model))]
 fn sound(walked: WalkedUnit) -> SoundUnit
     ensures { sound_of result ≡ made walked }
@@ -94,7 +102,7 @@ fn sound(walked: WalkedUnit) -> SoundUnit
     }
 }
 
-/// What is wrong, where something is; else the unit.
+/// The errors, if there are any; else the unit.
 fn found(wrong: Seq<Diagnostic>, walked: WalkedUnit) -> UnitVerdict
     ensures { verdict_of result ≡ unless_wrong wrong (made walked) }
 {
@@ -108,7 +116,10 @@ fn found(wrong: Seq<Diagnostic>, walked: WalkedUnit) -> UnitVerdict
 }
 
 #[tactic(auto, unfolding(crate::specs::Made::finding_of))]
-/// What is found in the text of a unit that was walked, with these faults.
+/// The verdict over a unit that was walked, with these errors.
+///
+/// # Errors
+/// `NoMemory` if the allocator refuses memory.
 pub fn finding_of(
     alloc: Global,
     faults: FaultList,

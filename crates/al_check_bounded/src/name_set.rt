@@ -9,7 +9,7 @@ use indexmap::IndexSet;
 use std::alloc::Global;
 use std::marker::Model;
 
-/// Names, each once, in the order in which they came. A name is found without a walk.
+/// A set of names: each is in it once, in the order of insertion, and is found by hashing.
 pub struct NameSet {
     names: IndexSet<Name>,
 }
@@ -29,7 +29,7 @@ impl Model for NameSet {
 }
 
 impl NameSet {
-    /// No names. It takes no memory.
+    /// The empty set. It takes no memory.
     pub fn new(alloc: Global) -> Self
         ensures { result ≡ [] }
     {
@@ -45,14 +45,17 @@ impl NameSet {
         self.names.as_slice()
     }
 
-    /// Whether the name is there.
+    /// Whether the name is in the set.
     pub fn contains(&self, name: &Name) -> bool
         ensures { result ≡ list_any (bytes_eq name.now) self.now }
     {
         self.names.contains(name)
     }
 
-    /// One more name, unless it is there.
+    /// Adds a name, unless it is in the set.
+    ///
+    /// # Errors
+    /// `NoMemory` if the allocator refuses memory.
     pub fn insert(&mut self, name: Name) -> Result<(), NoMemory>
         ensures { OnOk result (self.new ≡ insert_key bytes_eq self.old name) }
     {
@@ -60,7 +63,10 @@ impl NameSet {
         Ok(())
     }
 
-    /// The same names once more.
+    /// A copy of the set.
+    ///
+    /// # Errors
+    /// `NoMemory` if the allocator refuses memory.
     pub fn copy(&self, alloc: Global) -> Result<NameSet, NoMemory>
         ensures { IfOk result (λ copy. copy ≡ self.now) }
     {

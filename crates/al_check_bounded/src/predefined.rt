@@ -1,4 +1,4 @@
-// What every unit has.
+// The predefined units.
 ghost use Rattle.std.specs.Prelude.{◌≡◌, IfOk};
 ghost use Rattle.al_check_bounded.specs.Constants.{predefined};
 
@@ -6,7 +6,10 @@ use al_base::NoMemory;
 use al_overload::Predefined;
 use std::alloc::Global;
 
-/// What every unit has, made anew.
+/// The predefined units, made anew.
+///
+/// # Errors
+/// `NoMemory` if the allocator refuses memory.
 pub fn predefined_everywhere(alloc: Global) -> Result<Predefined, NoMemory>
     ensures { IfOk result (λ p. p ≡ predefined) }
 {

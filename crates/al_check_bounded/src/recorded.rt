@@ -1,4 +1,4 @@
-// What was recorded already.
+// Views in recorded answers.
 ghost use Rattle.std.specs.Prelude.{◌≡◌, ◌<◌, ◌++◌, IfOk, OnOk, get_or, length};
 ghost use Rattle.al_query.specs.declared.answer.AnswerKind.{AnswerKind};
 ghost use Rattle.al_query.specs.declared.query.Query.{Query};
@@ -11,7 +11,7 @@ use al_query::{Answer, Query, ReadLog};
 use al_view::{Seq, View};
 use std::alloc::Global;
 
-/// Adds the views in a recorded answer, where the question is one of these.
+/// Adds the views in a recorded answer, if its question is wanted.
 fn add_entry(
     wanted: &Wanted,
     query: &Query,
@@ -27,7 +27,7 @@ fn add_entry(
     }
 }
 
-/// Adds the views in the i-th recorded answer, from 0.
+/// Adds the views in the `i`-th recorded answer, from 0, if its question is wanted.
 fn add_at(wanted: &Wanted, log: &ReadLog, i: usize, found: &mut Vec<View>) -> Result<(), NoMemory>
     requires { i < length log.now }
     ensures { OnOk result ((e : Query × AnswerKind) → found.new.items ≡ found.old.items ++ shown_in wanted.now (get_or log.now i e)) }
@@ -47,7 +47,10 @@ fn add_log(wanted: &Wanted, log: &ReadLog, found: &mut Vec<View>) -> Result<(), 
     Ok(())
 }
 
-/// The views in the recorded answers to these questions: whatever table agrees with the log shows them too.
+/// The views in the recorded answers to wanted questions. Every table that agrees with the log shows them too.
+///
+/// # Errors
+/// `NoMemory` if the allocator refuses memory.
 pub fn recorded_views(alloc: Global, wanted: &Wanted, log: &ReadLog) -> Result<Seq<View>, NoMemory>
     ensures { IfOk result (AreShown wanted.now log.now) }
 {

@@ -1,4 +1,4 @@
-// What was asked within bounds, asked of a recorder.
+// Questions that were asked within bounds, asked again of a recorder.
 ghost use Rattle.std.specs.Prelude.{◌≡◌, IfOk, OnOk};
 ghost use Rattle.al_query.specs.Asked.{AsksOf};
 ghost use Rattle.al_query.specs.Reads.{Agrees, FromAnswers};
@@ -11,7 +11,10 @@ use al_query::{Answer, Answers, Query, ReadLog, Recorder};
 use al_query_outcome::no_answer;
 use std::alloc::Global;
 
-/// The answer within the bounds: a question that may not be asked has that of a unit that isn't there.
+/// The answer within the bounds. A question that may not be asked has the answer of a unit that doesn't exist.
+///
+/// # Errors
+/// `NoMemory` if the allocator refuses memory.
 pub fn answer_within<A: Answers>(
     alloc: Global,
     bounds: &Bounds,
@@ -48,8 +51,11 @@ fn ask_if_allowed<A: Answers>(
     Ok(())
 }
 
-/// Asks the recorder each question of the log that may be asked, so that whatever table agrees with the recorder's log then agrees,
-/// within the bounds, with this log.
+/// Asks the recorder each question of the log that may be asked. Then every table that agrees with the recorder's log agrees, within the bounds,
+/// with this log.
+///
+/// # Errors
+/// `NoMemory` if the allocator refuses memory.
 pub fn replay<A: Answers>(
     bounds: &Bounds,
     log: &ReadLog,

@@ -18,7 +18,7 @@ fn package_view(alloc: Global, symbol: &Symbol) -> Result<View, NoMemory>
     Ok(View::new(alloc, ViewKind::OfPackage(symbol))?)
 }
 
-/// The own view of a subprogram: as its own text declares it, or else that of what its body completes.
+/// The own view of a subprogram: that which its own declaration gives, or else that of the declaration which its body completes.
 fn view_of_subprogram(
     declared: &[Declaration],
     completed: &Option<View>,
@@ -34,7 +34,10 @@ fn view_of_subprogram(
     }
 }
 
-/// The own view of a unit: a package, or a subprogram as its own text declares it, or else as what its body completes.
+/// The own view of a unit: a package, or a subprogram as its own declaration gives it or else as its body completes it. None if it has neither.
+///
+/// # Errors
+/// `NoMemory` if the allocator refuses memory.
 pub fn own_view(
     alloc: Global,
     own: &OwnText,
@@ -49,16 +52,23 @@ pub fn own_view(
     view_of_subprogram(declared, completed)
 }
 
-/// What its text and its place say of a unit, with its own view and its parent.
+/// What a unit says of itself, before it is put together.
 pub struct SaidUnit {
+    /// The unit's own header.
     pub own: OwnText,
+    /// Its own view.
     pub kind: View,
+    /// Its parent, if it has one.
     pub parent: Option<UnitKey>,
+    /// Whether it is a declaration that needs a body.
     pub needs_body: bool,
     /// The units that its with clauses name.
     pub withs: Seq<UnitKey>,
+    /// The use clauses that are immediately in its parts.
     pub uses_inside: Seq<UseInPart>,
+    /// The private types that its visible part declares.
     pub private_types: Seq<Name>,
+    /// The declarations that it leaves to its body to complete.
     pub completions: Seq<Completion>,
 }
 
@@ -78,7 +88,7 @@ impl Drop for SaidUnit {
 }
 
 impl SaidUnit {
-    /// What a unit says of itself. It takes no memory.
+    /// The properties of a unit: what it says of itself. It takes no memory.
     pub fn into_properties(self) -> Properties
         ensures { result ≡ said self }
     {

@@ -7,7 +7,7 @@ use al_view::Seq;
 use std::alloc::Global;
 use std::mem;
 
-/// Reads one more byte after whole identifiers and the front of one.
+/// Reads one more byte, after whole identifiers and the beginning of one.
 fn read_byte(
     alloc: Global,
     segments: &mut Vec<Name>,
@@ -25,7 +25,7 @@ fn read_byte(
     Ok(())
 }
 
-/// The identifiers of a unit's name, which dots part.
+/// The identifiers of a unit's name, which dots separate.
 pub(crate) fn segments_of(alloc: Global, name: &[u8]) -> Result<Seq<Name>, NoMemory>
     ensures { IfOk result (λ segments. segments ≡ segments_from [] name.now) }
 {

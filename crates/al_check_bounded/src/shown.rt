@@ -17,7 +17,7 @@ use al_query::{Answers, ReadLog, Recorder};
 use al_view::{Seq, View};
 use std::alloc::Global;
 
-/// Which questions may show the unit what it uses of others.
+/// The questions that may show the unit what it uses of others.
 pub(crate) fn wanted_of(alloc: Global, bounds: &Bounds) -> Result<Wanted, NoMemory>
     ensures { IfOk result (λ wanted. wanted ≡ wanted_of bounds.now) }
 {
@@ -28,7 +28,7 @@ pub(crate) fn wanted_of(alloc: Global, bounds: &Bounds) -> Result<Wanted, NoMemo
     })
 }
 
-/// The views in the answers to all of these questions, which are asked within the bounds.
+/// The views in the answers to all of these questions, asked within the bounds.
 fn asked_within<A: Answers>(
     alloc: Global,
     bounds: &Bounds,
@@ -54,8 +54,7 @@ fn asked_within<A: Answers>(
     Ok(views)
 }
 
-/// Views that were shown, with which a sound unit is kept where it is with all that can be shown: those that were recorded, where they do,
-/// or else all.
+/// Views that were shown, by which a sound unit is kept if it would be by all that can be shown: the recorded views if these suffice, or else all.
 pub(crate) fn shown_views<A: Answers>(
     alloc: Global,
     bounds: &Bounds,

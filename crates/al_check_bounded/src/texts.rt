@@ -1,4 +1,4 @@
-// The check of a text.
+// The check of a unit's source.
 ghost use Rattle.std.specs.Prelude.{◌≡◌, [], Some, IfOk, OnOk};
 ghost use Rattle.al_tree.specs.UnitViews.{unit_model};
 ghost use Rattle.al_unit_graph.specs.Views.{header_model};
@@ -20,7 +20,7 @@ use al_unit::check_text_laws::{headers_are_read, units_are_read};
 use al_unit::{AdaText, ReadUnit};
 use std::alloc::Global;
 
-/// The check of a unit with this text, in which this unit was read.
+/// Checks a unit whose source was parsed.
 fn check_read<F: UnitFinder, A: Answers>(
     alloc: Global,
     finder: &F,
@@ -51,7 +51,7 @@ fn check_read<F: UnitFinder, A: Answers>(
     )
 }
 
-/// The check of a unit with this text.
+/// Checks a unit with this source.
 pub(crate) fn check_text<F: UnitFinder, A: Answers>(
     alloc: Global,
     finder: &F,

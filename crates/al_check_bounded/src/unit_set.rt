@@ -1,4 +1,4 @@
-// Units of which one is found without a walk.
+// Lists of units in which each is found by hashing.
 ghost use Rattle.std.specs.Prelude.{◌≡◌, IfOk};
 ghost use Rattle.al_check_bounded.specs.UnitLists.{AreAlike};
 ghost use Rattle.al_query.specs.Known.{has_unit};
@@ -9,10 +9,10 @@ use indexmap::IndexSet;
 use std::alloc::Global;
 use std::marker::Model;
 
-/// Units in the order in which they came. A unit is found without a walk.
+/// A list of units in the order given. A unit is found by hashing.
 pub struct UnitSet {
     listed: Vec<UnitKey>,
-    /// Each of them once.
+    /// The units of the list, each once.
     index: IndexSet<UnitKey>,
 }
 
@@ -37,7 +37,7 @@ impl Model for UnitSet {
     ghost invariant = { λ s. AreAlike s.index.keys s.listed.items };
 }
 
-/// Each of the units once.
+/// The set of these units.
 fn index_of(alloc: Global, units: &[UnitKey]) -> Result<IndexSet<UnitKey>, NoMemory>
     ensures { IfOk result (λ index. AreAlike index.keys units.now) }
 {
@@ -61,7 +61,10 @@ fn copied_units(alloc: Global, units: &[UnitKey]) -> Result<Vec<UnitKey>, NoMemo
 }
 
 impl UnitSet {
-    /// These units.
+    /// The list of these units.
+    ///
+    /// # Errors
+    /// `NoMemory` if the allocator refuses memory.
     pub fn new(alloc: Global, units: Vec<UnitKey>) -> Result<Self, NoMemory>
         ensures { IfOk result (λ set. set ≡ units.items) }
     {
@@ -81,14 +84,17 @@ impl UnitSet {
         self.listed.as_slice()
     }
 
-    /// Whether the unit is there.
+    /// Whether the unit is in the list.
     pub fn contains(&self, unit: &UnitKey) -> bool
         ensures { result ≡ has_unit self.now unit.now }
     {
         self.index.contains(unit)
     }
 
-    /// The same units once more.
+    /// A copy of the list.
+    ///
+    /// # Errors
+    /// `NoMemory` if the allocator refuses memory.
     pub fn copy(&self, alloc: Global) -> Result<UnitSet, NoMemory>
         ensures { IfOk result (λ copy. copy ≡ self.now) }
     {

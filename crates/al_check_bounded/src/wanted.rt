@@ -11,11 +11,14 @@ use al_base::{Name, UnitKey};
 use al_query::{Property, Query};
 use al_view::{Part, Seq};
 
-/// Which questions may show a unit what it uses of others: of each of these units what it is, what its body must complete, and each of these
-/// names in each of its parts and before each of these stubs.
+/// The questions that may show a unit what it uses of others: for each of `units` what it is, what its body must complete, and each of `names` in
+/// each of its parts and before each of `stubs`.
 pub struct Wanted {
+    /// The units that are asked.
     pub units: UnitSet,
+    /// The names of the stubs.
     pub stubs: Seq<Name>,
+    /// The names that are asked for.
     pub names: NameSet,
 }
 

@@ -1,4 +1,4 @@
-// The words of a text.
+// The words of a unit's source.
 ghost use Rattle.std.specs.Prelude.{◌≡◌, ◌≤◌, [], length, map, IfOk, OnOk};
 ghost use Rattle.std.specs.Str.{bytes_eq};
 ghost use Rattle.std.specs.Char.{to_ascii_lowercase};
@@ -11,7 +11,7 @@ use al_lex::{LexError, Token, lex};
 use al_tree::text_of;
 use std::alloc::Global;
 
-/// The text of a token, in lower case.
+/// The source of a token, in lower case.
 fn word_of(alloc: Global, text: &[u8], token: &Token) -> Result<Name, NoMemory>
     ensures { IfOk result (λ word. word ≡ word_of text.now token.now) }
 {
@@ -30,7 +30,7 @@ fn words_in(alloc: Global, text: &[u8], tokens: &[Token]) -> Result<NameSet, NoM
     Ok(words)
 }
 
-/// The words of a text in lower case, each once; none of a text with a lexical fault.
+/// The words of a unit's source in lower case, each once. A source with a lexical error has none.
 #[tactic(auto, unfolding(al_query_outcome::specs::Words::words_of))]
 pub(crate) fn words_of(alloc: Global, text: &[u8]) -> Result<NameSet, NoMemory>
     requires { length text.now ≤ 4294967294 }
@@ -43,7 +43,7 @@ pub(crate) fn words_of(alloc: Global, text: &[u8]) -> Result<NameSet, NoMemory>
     }
 }
 
-/// These words, and then the names that aren't among them.
+/// These words, then the names that aren't among them.
 #[tactic(auto, using(crate::proofs::WordLemmas::names_more))]
 pub(crate) fn with_names(alloc: Global, words: NameSet, more: &[Name]) -> Result<NameSet, NoMemory>
     ensures { IfOk result (λ names. names ≡ insert_all bytes_eq words more.now) }

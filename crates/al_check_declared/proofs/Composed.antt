@@ -82,7 +82,7 @@ pub object_same : (h : CheckState) (p : Environment) (os : OperationBodiesTree) 
 object_same h p os (Ok x) = refl
 object_same h p os (Err f) = refl
 
--- with a fault more, at a place
+-- with one more error, at a place
 pub entry_made : (e : Environment) (wrong : Option Fault) (checked made : Result NamedBody Fault) (x : Result Named Fault)
     → made ≡ unless wrong checked → at_place e (map_ok named_model checked) ≡ x → at_place e (map_ok named_model made) ≡ unless wrong x
 entry_made e wrong checked made x made_is is =

@@ -1,4 +1,4 @@
--- The region of an object in one of its forms: what stands round it, what is declared in it, and what it depends on.
+-- The region of an object in one of its forms: what encloses it, what is declared in it, and what it depends on.
 use mathlib.Core.Bool.{beq}
 use Rattle.std.proofs.Common.{◌≡◌, ℕ, Bool, true, false, if◌then◌else◌, List, [], ◌∷◌, ◌++◌, Some, refl, sym, ap, ◌∙◌, subst}
 use Rattle.std.specs.Map.{lookup}
@@ -38,7 +38,7 @@ same_flag false false e = refl
 same_flag true false e = absurd (cc)
 same_flag false true e = absurd (cc)
 
--- ---- what is declared in one form: where what a name has begins with an object of some form, it is that form
+-- ---- what is declared in one form: if what a name has begins with an object of some form, it is that form
 
 module _ (form other : Bool) where
   abbrev IsFormed : List ViewKind → Type 0
@@ -103,7 +103,7 @@ left-outer outer v form =
     let h = filled form form outer v in
     place-is (region_left inner) outer.scope h.0 (sym (before_last inner.regions outer.scope.regions h.1 h.2))
 
--- ---- it goes by the regions round it alone
+-- ---- it depends only on the regions that enclose it
 
 operations-aside : (h env : Environment) (os : List Operation)
     → fold with_operation (record env { progress = h.progress; uncompleted = h.uncompleted }) os ≡ record (fold with_operation env os) { progress = h.progress; uncompleted = h.uncompleted }
@@ -128,7 +128,7 @@ entered-aside h outer v form d =
 abbrev begun : Environment → ProtectedView → Environment
 begun outer v = fold with_operation (entered_alone outer v.symbol) v.operations
 
--- the region in the one form, where it has the other one, is the same
+-- the region in the one form, if it has the other one, is the same
 forms-same : (outer : Environment) (v : ProtectedView) (form other : Bool) → has_form other v.components (region_entered outer v form).scope.regions ≡ true → region_entered outer v form ≡ region_entered outer v other
 forms-same outer v form other = at v.components refl
   where

@@ -27,7 +27,7 @@ use Rattle.al_check_declared.specs.ObjectRegions.{word_after}
 abbrev pub is_barrier : List ℕ → Symbol → Component → Bool
 is_barrier name of c = bytes_eq c.name name && same_symbol c.subtype.base of
 
--- the component of that name and that type among these, which begin at that word of the object
+-- the component with this name and this type among these, which begin at that word of the object
 abbrev pub barrier_among : ProtectedView → List ℕ → Symbol → ℕ → List Component → Option ObjectPlace
 barrier_among object name of word [] = None
 barrier_among object name of word (c ∷ cs) =
@@ -41,7 +41,7 @@ barrier_named object (Some name) = barrier_among object name boolean 0 object.co
 abbrev pub barrier_of : ProtectedView → ExpressionTree → Option ObjectPlace
 barrier_of object e = barrier_named object (key_of e)
 
--- anything else is E603 at its first token, and has no other fault
+-- a barrier that isn't right is E603 at its first token, and has no other error
 abbrev pub barrier_fault : ProtectedView → ExpressionTree → Option Fault
 barrier_fault object e = missing (barrier_of object e)
   where
@@ -49,7 +49,7 @@ barrier_fault object e = missing (barrier_of object e)
     missing None = Some (fault_at (first_place e) BadBarrier)
     missing (Some place) = None
 
--- ---- the entry of an object, whose procedures may open it wherever its body stands among theirs
+-- ---- the entry of an object, whose procedures may open it, wherever its body is among theirs
 
 abbrev pub either : {A : Type 0} → Option A → Option A → Option A
 either None later = later

@@ -1,4 +1,4 @@
--- Declarations where the check of a unit stands (ARM 3.1, 6.1, 8.4), by a table of answers.
+-- Declarations at the place that the check of a unit has reached (ARM 3.1, 6.1, 8.4), by a table of answers.
 use Rattle.std.specs.Prelude.{ℕ, Bool, ◌&&◌, List, [], ◌∷◌, Option, Some, None, Result, Ok, Err, if◌then◌else◌}
 use Rattle.std.specs.Option.{option_map_or}
 use Rattle.al_stmts.specs.Walking.{first_line}
@@ -32,14 +32,14 @@ use Rattle.al_view.specs.declared.types.TypeView.{TypeView}
 use Rattle.al_view.specs.declared.view.ViewKind.{ViewKind}
 use Rattle.al_stmts.specs.Readings.{Read}
 
--- what reads the parts of declarations there
+-- the analyzer of the parts of declarations at the place
 abbrev pub parts_here : Table → CheckState → PartReading
 parts_here t h = parts_read t h.unit.packages h.unit.labeller.predefined h.unit.labeller.own h.unit.own.unit
 
 abbrev pub with_regions : CheckState → List Region → CheckState
 with_regions h regions = with_here h (record h.env { scope = in_regions h.env.scope regions })
 
--- after a fault nothing of the place is looked at any more
+-- after an error nothing of the place is looked at any more
 abbrev pub faulty_here : CheckState → Fault → Read CheckState (List DeclarationTree)
 faulty_here h f = (ended h, Err f)
 
@@ -52,7 +52,7 @@ uses_settled h (Err f) = faulty_here h f
 abbrev pub uses_read : CheckState → Result (List UseClause) Fault → Read CheckState (List DeclarationTree)
 uses_read h clauses = uses_settled (with_regions h (used_in clauses h.env.scope.regions)) clauses
 
--- the visible part of a package's declaration in which nothing is declared so far
+-- the place is in the visible part of a package's declaration, in which nothing is declared so far
 abbrev pub is_at_head : CheckState → Bool
 is_at_head h = (h.unit.own.is_package && same_kind h.unit.own.unit.kind Decl) && (is_bare h.visible && is_bare h.env.declared)
 
@@ -65,17 +65,17 @@ pragma_settled h (Some f) = faulty_here h f
 
 -- ---- private types
 
--- the words of the values of the type that is declared first under a name
+-- the number of words of a value of the type that is declared first under a name
 abbrev pub type_words : List ViewKind → ℕ
 type_words [] = 0
 type_words (v ∷ vs) = option_map_or (λ (t : TypeView). layout_words t.layout) (declared_type v) 0
 
--- in the visible part of a package a private type may stand (ARM 7.3(4)); the words of its values are those of its full declaration
+-- a private type is allowed in the visible part of a package (ARM 7.3(4)); its values have the words of its full declaration
 abbrev pub private_words : CheckState → List ℕ → Option ℕ
 private_words h name =
     if h.unit.own.is_package && same_part h.part part.Visible then Some (type_words (views_of h.unit.private_part name)) else None
 
--- ---- what packages and bodies declare alike
+-- ---- declarations that are allowed in packages and in bodies
 
 abbrev pub open_declared : Table → CheckState → CommonTree → Read CheckState (List DeclarationTree)
 open_declared t h (ObjectDeclaration o) = effect_settled h (object_checked (parts_here t h) t h.env o)
@@ -91,6 +91,6 @@ no_place h = faulty_here h not_yet_fault
 abbrev pub declared_here : Table → CheckState → CommonTree → Read CheckState (List DeclarationTree)
 declared_here t h c = if is_nowhere h then no_place h else open_declared t h c
 
--- a subprogram's declaration inside a unit
+-- the declaration of a subprogram inside a unit
 abbrev pub nested_declared : Table → CheckState → SpecificationTree → Read CheckState (List DeclarationTree)
 nested_declared t h s = effect_settled h (subprogram_checked (parts_here t h) t h.env (first_line s) s)

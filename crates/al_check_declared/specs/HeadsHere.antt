@@ -1,4 +1,4 @@
--- Heads of bodies and stubs where the check of a unit stands (ARM 6.3, 10.1.3), by a table of answers.
+-- Heads of bodies and stubs at the place that the check of a unit has reached (ARM 6.3, 10.1.3), by a table of answers.
 use Rattle.std.specs.Prelude.{ℕ, true, List, Option, Some, None, Result, Ok, Err, is_some}
 use Rattle.al_stmts.specs.Walking.{first_line}
 use Rattle.al_check_here.specs.Ends.{stub_names}
@@ -23,11 +23,11 @@ use Rattle.al_view.specs.declared.symbol.Symbol.{Symbol}
 use Rattle.al_stmts.specs.Readings.{Read}
 use Rattle.al_check_declared.specs.DeclarationsHere.{faulty_here, parts_here}
 
--- what stands before the `is` of a body, or is a subprogram's declaration
+-- what precedes the `is` of a body, or is a subprogram's declaration
 abbrev pub heading_here : Table → CheckState → SpecificationTree → Heading
 heading_here t h s = heading_read (parts_here t h) h.env.scope s
 
--- a body or stub with that head, which completes what waits first with its name and its types
+-- a body or stub with this head: it completes the first declaration that waits with its name and its types
 abbrev pub body_at : Table → Environment → ℕ → Option Fault → Heading → Result (Environment × (Option DeclarationTree × Symbol)) Fault
 body_at t env line stub head =
     body_placed env line stub head (completing_found env.uncompleted head.name (specification_of head) true (is_some (head_duplicate t env head)))
@@ -37,7 +37,7 @@ body_at t env line stub head =
 abbrev pub stub_wrong : CheckState → Heading → Option Fault
 stub_wrong h head = stub_fault head.name.place (is_immediate h) (stub_names h.stubs) head.name.name
 
--- one that is right stands there
+-- a stub that is right is added
 abbrev pub stub_kept : CheckState → Heading → Option DeclarationTree × Symbol → Read CheckState (List DeclarationTree)
 stub_kept h head x = (with_stub h head x.1, Ok (effect_list x.0))
 

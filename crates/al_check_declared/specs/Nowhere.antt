@@ -1,4 +1,4 @@
--- What stands where no text of a unit stands: outside of all regions, or the value of a function in what is no function.
+-- The error outside of all regions, and of a function's value outside of any function.
 use Rattle.al_base_fault.specs.declared.check_rule.CheckRule.TheVariants.{NotYet}
 use Rattle.al_base_fault.specs.Faults.{fault_at}
 use Rattle.al_base_fault.specs.declared.fault.Fault.{Fault}

@@ -24,7 +24,7 @@ use Rattle.al_view.specs.declared.view.ViewKind.TheVariants.{OfObject, OfSubprog
 abbrev pub with_operation : Environment → Operation → Environment
 with_operation env o = with_declaration env (declared_as o.name (OfSubprogram o.subprogram))
 
--- ---- components, each in the words of the object from one on
+-- ---- components, each in the words of the object from one word on
 
 -- in the body of a function of the object they are constants (ARM 9.5.1(2))
 abbrev pub component_view : ProtectedView → Bool → Component → ℕ → ViewKind
@@ -34,7 +34,7 @@ component_view object is_constant c word =
 abbrev pub word_after : ProtectedView → Component → ℕ → ℕ
 word_after object c word = place_after word (words_in object.types c.subtype.base)
 
--- a component more, and the word after it
+-- one more component, and the word after it
 abbrev pub with_component : ProtectedView → Bool → Environment × ℕ → Component → Environment × ℕ
 with_component object is_constant at c =
     (with_declaration at.0 (declared_as c.name (component_view object is_constant c at.1)), word_after object c at.1)
@@ -61,7 +61,7 @@ abbrev pub is_first_object : Bool → List ViewKind → Bool
 is_first_object is_constant [] = false
 is_first_object is_constant (v ∷ vs) = is_object is_constant v
 
--- by the first component; without any both forms are the same
+-- the first component decides; without components both forms are the same
 abbrev pub has_form : Bool → List Component → List Region → Bool
 has_form is_constant [] regions = not (is_bare regions)
 has_form is_constant (c ∷ cs) regions = is_first_object is_constant (views_of (inner_declared regions) c.name)

@@ -1,4 +1,4 @@
--- Tasks and protected objects where the check of a unit stands (ARM 9.1, 9.4, 9.5.2), by a table of answers.
+-- Tasks and protected objects at the place that the check of a unit has reached (ARM 9.1, 9.4, 9.5.2), by a table of answers.
 use Rattle.std.specs.Prelude.{ℕ, not, List, [], Option, None, Result, Ok, Err, is_some, if◌then◌else◌}
 use Rattle.al_base_fault.specs.Judging.{unless}
 use Rattle.al_base_fault.specs.declared.fault.Fault.{Fault}
@@ -43,9 +43,9 @@ task_here t h k = effect_settled h (task_checked (parts_here t h) t h.env k)
 abbrev pub object_here : Table → CheckState → ℕ → ProtectedTree → Read CheckState (List DeclarationTree)
 object_here t h line p = effect_settled h (protected_checked (parts_here t h) t h.env line p)
 
--- ---- heads of bodies that have a name alone
+-- ---- heads of bodies that have only a name
 
--- what a body's code is known by
+-- the symbol of a body's code
 abbrev pub view_symbol : CheckState → ViewKind → Symbol
 view_symbol h (OfSubprogram s) = s.symbol
 view_symbol h (OfTask k) = k.symbol
@@ -62,18 +62,18 @@ named_at t h n head = named_body t h.env n.place.line n head
 abbrev pub task_head : Table → CheckState → Label → Read CheckState (List DeclarationTree)
 task_head t h l = named_settled h roles.Task (defined l) (named_at t h (defined l) heads.Task)
 
--- with its barrier, which stands after its name
+-- the head of an entry's body has its barrier after its name
 abbrev pub entry_head : Table → CheckState → Label → ExpressionTree → Read CheckState (List DeclarationTree)
 entry_head t h l barrier = named_settled h roles.Entry (defined l) (unless (barrier_fault_here h barrier) (named_at t h (defined l) heads.Entry))
 
 -- ---- heads of the subprograms of a protected object: each completes a declaration of the object (ARM 9.4(10))
 
--- where a mark is faulty, which one it completes isn't known, and so it isn't said that there is none
+-- if a mark has an error, it isn't known which declaration the head completes, so it isn't reported that there is none
 abbrev pub operation_at : Table → Environment → ℕ → Heading → Result (Environment × (Option DeclarationTree × Symbol)) Fault
 operation_at t env line head =
     body_placed env line None head (completing_found env.uncompleted head.name (specification_of head) (not (has_right_marks head)) (is_some (head_duplicate t env head)))
 
--- what is elaborated is the object as a whole
+-- only the object as a whole is elaborated
 abbrev pub operation_settled : CheckState → Heading → Result (Environment × (Option DeclarationTree × Symbol)) Fault → Read CheckState (List DeclarationTree)
 operation_settled h head (Ok x) = (with_head h x.0 roles.Operation head x.1.1, Ok [])
 operation_settled h head (Err f) = faulty_here h f
@@ -84,7 +84,7 @@ operation_of t h line head = operation_settled h head (operation_at t h.env line
 abbrev pub operation_head : Table → CheckState → SpecificationTree → Read CheckState (List DeclarationTree)
 operation_head t h s = operation_of t h (first_line s) (heading_here t h s)
 
--- the head of any subprogram's body that isn't the unit
+-- the head of a subprogram's body that isn't the unit
 abbrev pub inner_head : Table → CheckState → SpecificationTree → Read CheckState (List DeclarationTree)
 inner_head t h s = if is_operation h then operation_head t h s else nested_head t h s
 

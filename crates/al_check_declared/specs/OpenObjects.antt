@@ -1,4 +1,4 @@
--- Protected bodies are entered and left (ARM 9.4), and the region of their operations has the form that the body of each of them sees.
+-- How protected bodies are entered and left (ARM 9.4). The region of their operations has the form that the body of each of them sees.
 use Rattle.std.specs.Prelude.{Bool, true, false, Option, Some, None, if◌then◌else◌}
 use Rattle.al_base_fault.specs.declared.fault.Fault.{Fault}
 use Rattle.al_check_here.specs.RegionsHere.{left_to, region_left}
@@ -23,7 +23,7 @@ use Rattle.al_check_declared.specs.ObjectRegions.{has_form, region_entered}
 
 -- ---- a protected body
 
--- in an object or in none, whose operations may not be called there (ARM 9.5.1(7): none is called from its own bodies)
+-- in an object, or in none; its operations may not be called there (ARM 9.5.1(7): none is called from its own bodies)
 abbrev pub in_object : CheckState → Option OpenObject → Option Symbol → CheckState
 in_object h object own = record h { unit = record h.unit { labeller = record h.unit.labeller { own = own } }; object = object }
 
@@ -41,7 +41,7 @@ abbrev pub opened_by : CheckState → ViewKind → OperationBodiesTree → Optio
 opened_by h view os None = h
 opened_by h view os (Some v) = opened_object h view v os
 
--- by what its body completes: a body of what is no protected object isn't entered
+-- by what its body completes: a body of something else than a protected object isn't entered
 abbrev pub object_opened : CheckState → ViewKind → OperationBodiesTree → CheckState
 object_opened h view os = opened_by h view os (protected_of view)
 
@@ -49,7 +49,7 @@ abbrev pub out_of_object : CheckState → Option OpenObject → CheckState
 out_of_object h None = h
 out_of_object h (Some o) = in_object (with_here h (left_to h.env o.outside)) None None
 
--- where none is open, nothing is left
+-- if no object is open, nothing is left
 abbrev pub object_left : CheckState → CheckState
 object_left h = out_of_object h h.object
 
@@ -64,7 +64,7 @@ is_of_object roles.Entry = true
 abbrev pub entered_anew : Environment → ProtectedView → Bool → Environment
 entered_anew env v is_constant = region_entered (record env { scope = region_left env.scope }) v is_constant
 
--- a region that has the form already is as it would be, were it entered anew
+-- a region that has the form already is as if it were entered anew
 abbrev pub renewed_by : Environment → Bool → Option ProtectedView → Environment
 renewed_by env is_constant None = env
 renewed_by env is_constant (Some v) = if has_form is_constant v.components env.scope.regions then env else entered_anew env v is_constant
@@ -73,7 +73,7 @@ abbrev pub renewed_in : CheckState → Bool → Option OpenObject → CheckState
 renewed_in h is_constant None = h
 renewed_in h is_constant (Some o) = with_here h (renewed_by h.env is_constant (protected_of o.view))
 
--- before the body of an operation: in that of a function the components are constants
+-- the region before the body of an operation: in that of a function the components are constants
 abbrev pub renewed : CheckState → AnalyzedHeading → CheckState
 renewed h read = renewed_in h (is_function read.heading.returned) h.object
 

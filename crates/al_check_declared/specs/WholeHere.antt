@@ -46,14 +46,14 @@ whole_declared t h s = whole_of h (first_line s) (undotted (heading_here t h s))
 
 -- ---- the head of its body
 
--- a body that acts as its declaration is a child of its parent, like any library unit
+-- a body that acts as its declaration is a child of its parent, as any library unit is
 abbrev pub own_mentioned : List ℕ → Place → Declaration → Place
 own_mentioned unit place d = record { mentioned = with_mentioned unit d.view place.mentioned; regions = place.regions }
 
 abbrev pub with_own : List ℕ → Place → List Declaration → Place
 with_own unit place declarations = fold (own_mentioned unit) place declarations
 
--- where what it took is taken
+-- the place, with what the head has taken
 abbrev pub with_whole : CheckState → Heading → DeclaredTree × Symbol → CheckState
 with_whole h head x = record h {
   env = record h.env { scope = with_own h.unit.own.unit.name h.env.scope x.0.declarations };

@@ -18,7 +18,7 @@ fn is_barrier(name: &[u8], of: &Symbol, component: &Component) -> bool
     component.name.as_slice() == name && component.subtype.base.is(of)
 }
 
-/// The component of that name and that type.
+/// The component with this name and this type.
 fn barrier_among(
     alloc: Global,
     standard: &StandardTypes,
@@ -54,7 +54,7 @@ fn barrier_named(
     barrier_among(alloc, standard, object, name, &of, components)
 }
 
-/// Where a barrier lies that is right: it is the name of a component of the object, of type Boolean (ARM D.7).
+/// The place of a barrier that is right: it is the name of a component of the object, of type Boolean (ARM D.7).
 pub(crate) fn barrier_of(
     alloc: Global,
     standard: &StandardTypes,
@@ -70,7 +70,7 @@ pub(crate) fn barrier_of(
     }
 }
 
-/// E603 at the first token of any other barrier.
+/// E603 at the first token of a barrier that isn't right.
 pub(crate) fn barrier_fault(
     alloc: Global,
     standard: &StandardTypes,

@@ -1,4 +1,4 @@
-// Bodies and private parts are entered (ARM 6.3, 7.1, 8.2).
+// How the check enters bodies and private parts (ARM 6.3, 7.1, 8.2).
 ghost use Rattle.std.specs.Prelude.{◌≡◌, ◌<◌, length, IfOk, OnOk};
 ghost use Rattle.al_base_fault.specs.Judging.{map_ok};
 ghost use Rattle.al_scope.specs.Seen.{subtype_seen_at};
@@ -18,7 +18,7 @@ use al_view::SubtypeView;
 use std::alloc::Global;
 use std::mem;
 
-/// From here on the private parts of the ancestors are seen (ARM 8.2(5)).
+/// Makes the private parts of the ancestors visible from here on (ARM 8.2(5)).
 fn open_ancestors<A: Answers>(
     state: &mut CheckState,
     recorder: &mut Recorder<A>,
@@ -32,7 +32,10 @@ fn open_ancestors<A: Answers>(
     enter_private_part(alloc, &mut state.env.scope, &state.unit.own, recorder)
 }
 
-/// The private part of a package's declaration begins.
+/// Begins the private part of a package's declaration.
+///
+/// # Errors
+/// `NoMemory` if the allocator refuses memory.
 pub fn enter_private<A: Answers>(
     state: &mut CheckState,
     recorder: &mut Recorder<A>,
@@ -50,7 +53,7 @@ pub fn enter_private<A: Answers>(
     Ok(())
 }
 
-/// A judged mark as the place sees it.
+/// The result of judging a mark once more, as the place sees it now.
 fn visible_mark<A: Answers>(
     alloc: Global,
     scope: &Scope,
@@ -66,7 +69,7 @@ fn visible_mark<A: Answers>(
     }
 }
 
-/// What a subprogram returns, as its statements see it.
+/// The result of a subprogram, as the place of its statements sees it.
 fn visible_result<A: Answers>(
     alloc: Global,
     scope: &Scope,
@@ -84,7 +87,7 @@ fn visible_result<A: Answers>(
     }
 }
 
-/// The head of a body whose place sees more than the head did: its result is seen as the place sees it.
+/// The head of a body, with its result as the place of the body sees it: there more may be visible than at the head.
 fn see_heading<A: Answers>(
     alloc: Global,
     scope: &Scope,
@@ -99,7 +102,7 @@ fn see_heading<A: Answers>(
     Ok(())
 }
 
-/// The body of a unit that is one subprogram.
+/// Enters the body of a unit that is one subprogram.
 fn enter_unit_body<A: Answers>(
     state: &mut CheckState,
     read: AnalyzedHeading,
@@ -119,7 +122,7 @@ fn enter_unit_body<A: Answers>(
     enter_whole(alloc, state, read)
 }
 
-/// The region of a protected object gets the form that the body of an operation of it sees.
+/// Gives the region of the protected object the form that the body of this operation sees.
 fn renew_for(alloc: Global, state: &mut CheckState, read: &AnalyzedHeading) -> Result<(), NoMemory>
     ensures { OnOk result (state.new ≡ renewed_for state.old read.now) }
 {
@@ -129,7 +132,7 @@ fn renew_for(alloc: Global, state: &mut CheckState, read: &AnalyzedHeading) -> R
     Ok(())
 }
 
-/// The body of an operation of a protected object, in that one's region in the form for it; or of what else stands inside the unit.
+/// Enters the body of an operation of a protected object in the object's region, or another body inside the unit in a region of its own.
 fn enter_nested_body(state: &mut CheckState, read: AnalyzedHeading) -> Result<(), NoMemory>
     ensures { OnOk result (state.new ≡ nested_body state.old read) }
 {
@@ -138,7 +141,7 @@ fn enter_nested_body(state: &mut CheckState, read: AnalyzedHeading) -> Result<()
     enter_nested(alloc, state, read)
 }
 
-/// The body whose head was read.
+/// Enters the body whose head was read.
 fn enter_read<A: Answers>(
     state: &mut CheckState,
     read: AnalyzedHeading,
@@ -153,7 +156,10 @@ fn enter_read<A: Answers>(
     enter_nested_body(state, read)
 }
 
-/// The region of a body after the head that was read last (ARM 6.3, 8.1).
+/// Enters the region of the body whose head was read last (ARM 6.3, 8.1).
+///
+/// # Errors
+/// `NoMemory` if the allocator refuses memory.
 pub fn enter_body<A: Answers>(
     state: &mut CheckState,
     recorder: &mut Recorder<A>,

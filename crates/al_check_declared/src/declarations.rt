@@ -1,4 +1,4 @@
-// Declarations where the check of a unit stands (ARM 3.1, 8.4).
+// Declarations at the place that the check of a unit has reached (ARM 3.1, 8.4).
 ghost use Rattle.std.specs.Prelude.{◌≡◌, ◌<◌, length, IfOk};
 ghost use Rattle.std.specs.Option.{option_copied};
 ghost use Rattle.al_check_here.specs.Faulty.{effect_settled};
@@ -26,7 +26,7 @@ use al_tree::{
 };
 use al_view::{Part, View};
 
-/// `names : ..;` (ARM 3.3.1, 3.3.2)
+/// An object or number declaration, `names : ..;` (ARM 3.3.1, 3.3.2).
 fn object<A: Answers>(
     state: &mut CheckState,
     declaration: &ObjectDeclaration,
@@ -55,7 +55,7 @@ fn object<A: Answers>(
     settle_effect(state.unit.labeller.alloc, state, checked)
 }
 
-/// The words of the values of the type that is declared first.
+/// The number of words of a value of the type that the first view shows.
 fn type_words(views: &[View]) -> u32
     ensures { result ≡ type_words views.now }
 {
@@ -68,7 +68,7 @@ fn type_words(views: &[View]) -> u32
     }
 }
 
-/// The words of the values of a private type of that name, where one may stand (ARM 7.3(4)).
+/// The number of words of a value of the private type with this name, if its declaration is allowed here (ARM 7.3(4)).
 fn private_words(state: &CheckState, name: &[u8]) -> Option<u32>
     ensures { result ≡ private_words state.now name.now }
 {
@@ -78,7 +78,7 @@ fn private_words(state: &CheckState, name: &[u8]) -> Option<u32>
     None
 }
 
-/// `type name is ..;` (ARM 3.2.1, 7.3)
+/// A type declaration, `type name is ..;` (ARM 3.2.1, 7.3).
 fn type_declaration<A: Answers>(
     state: &mut CheckState,
     declaration: &TypeDeclaration,
@@ -109,7 +109,7 @@ fn type_declaration<A: Answers>(
     settle_effect(state.unit.labeller.alloc, state, checked)
 }
 
-/// `subtype name is indication;` (ARM 3.2.2)
+/// A subtype declaration, `subtype name is indication;` (ARM 3.2.2).
 fn subtype<A: Answers>(
     state: &mut CheckState,
     declaration: &SubtypeDeclaration,
@@ -137,7 +137,10 @@ fn subtype<A: Answers>(
     settle_effect(state.unit.labeller.alloc, state, checked)
 }
 
-/// The declaration of a subprogram inside a unit (ARM 6.1).
+/// Judges the declaration of a subprogram inside a unit (ARM 6.1).
+///
+/// # Errors
+/// `NoMemory` if the allocator refuses memory.
 pub fn nested_subprogram<A: Answers>(
     state: &mut CheckState,
     specification: &Specification,
@@ -188,7 +191,7 @@ fn use_clause<A: Answers>(
     settle_uses(state, checked)
 }
 
-/// Whether the place is in the visible part of a package's declaration in which nothing is declared so far.
+/// Whether the place is in the visible part of a package's declaration, and nothing is declared there so far.
 fn is_at_head(state: &CheckState) -> bool
     ensures { result ≡ is_at_head state.now }
 {
@@ -199,7 +202,7 @@ fn is_at_head(state: &CheckState) -> bool
         && state.env.declared.len() == 0
 }
 
-/// The name of the package, where a pragma of its own may stand.
+/// The name of the package, if a pragma about the package is allowed here.
 fn package_name(state: &CheckState) -> Option<&[u8]>
     ensures { option_copied result ≡ package_name state.now }
 {
@@ -217,7 +220,7 @@ fn pragma(state: &mut CheckState, pragma: &Pragma) -> Result<Effects, NoMemory>
     settle_pragma(state, wrong)
 }
 
-/// A declaration in an open region.
+/// Judges a declaration if a region is open.
 fn open_declared<A: Answers>(
     state: &mut CheckState,
     declaration: &CommonDeclaration,
@@ -236,7 +239,10 @@ fn open_declared<A: Answers>(
     }
 }
 
-/// What packages and bodies declare alike.
+/// Judges a declaration that is allowed in packages and in bodies, and gives what it does at run time.
+///
+/// # Errors
+/// `NoMemory` if the allocator refuses memory.
 pub fn declared<A: Answers>(
     state: &mut CheckState,
     declaration: &CommonDeclaration,

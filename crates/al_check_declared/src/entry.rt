@@ -1,4 +1,4 @@
-// The entry of a protected object with its barrier.
+// The entry of a protected object, with its barrier.
 ghost use Rattle.std.specs.Prelude.{◌≡◌, map, IfOk};
 ghost use Rattle.al_check_declared.specs.Barriers.{entry_among, entry_by, entry_of, first_barrier, own_barrier, own_entry};
 ghost use Rattle.al_decl_judged.specs.Completing.{is_entry};
@@ -34,7 +34,7 @@ fn own_entry(alloc: Global, operation: &Operation) -> Result<Option<Symbol>, NoM
     Ok(None)
 }
 
-/// The entry among operations: there is one at most.
+/// The entry among the operations: there is one at most.
 fn entry_among(alloc: Global, operations: &[Operation]) -> Result<Option<Symbol>, NoMemory>
     ensures { IfOk result (λ symbol. symbol ≡ entry_among operations.now) }
 {
@@ -47,7 +47,7 @@ fn entry_among(alloc: Global, operations: &[Operation]) -> Result<Option<Symbol>
     Ok(None)
 }
 
-/// The barrier of an entry's body, where it is right.
+/// The barrier of an entry's body, if it is right.
 #[tactic(auto, using(al_tree::proofs::StatementsMade::operation_body_subprogram_model, al_tree::proofs::StatementsMade::operation_body_entry_model))]
 fn own_barrier(
     alloc: Global,
@@ -95,7 +95,7 @@ fn entry_by(symbol: Option<Symbol>, barrier: Option<ObjectPlace>) -> Option<Entr
     }
 }
 
-/// The entry of an object with its barrier, where the body of one with a right barrier stands among these (ARM 9.5.2).
+/// The entry of an object with its barrier, if the bodies hold one for it whose barrier is right (ARM 9.5.2).
 pub(crate) fn entry_of(
     alloc: Global,
     standard: &StandardTypes,

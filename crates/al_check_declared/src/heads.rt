@@ -17,7 +17,7 @@ use al_query::{Answers, Recorder};
 use al_stmts::first_line;
 use al_tree::Specification;
 
-/// What is wrong with a stub that may not stand there.
+/// What is wrong with a stub at a place that allows none.
 fn stub_wrong(state: &CheckState, heading: &Heading) -> Result<Option<Fault>, NoMemory>
     ensures { IfOk result (λ wrong. wrong ≡ stub_wrong state.now heading.now) }
 {
@@ -31,7 +31,7 @@ fn stub_wrong(state: &CheckState, heading: &Heading) -> Result<Option<Fault>, No
     ))
 }
 
-/// A stub with that head.
+/// Judges a stub with this head.
 fn stub_of<A: Answers>(
     state: &mut CheckState,
     line: usize,
@@ -56,7 +56,10 @@ fn stub_of<A: Answers>(
     settle_stub(state, heading, checked)
 }
 
-/// The stub of a subprogram (ARM 10.1.3).
+/// Judges the stub of a subprogram (ARM 10.1.3).
+///
+/// # Errors
+/// `NoMemory` if the allocator refuses memory.
 pub fn open_stub<A: Answers>(
     state: &mut CheckState,
     specification: &Specification,
@@ -72,7 +75,7 @@ pub fn open_stub<A: Answers>(
     checked
 }
 
-/// The head of a body.
+/// Judges the head of a body.
 fn head_of<A: Answers>(
     state: &mut CheckState,
     line: usize,
@@ -96,7 +99,7 @@ fn head_of<A: Answers>(
     settle_head(state, heading, checked)
 }
 
-/// What stands before the `is` of a body inside the unit (ARM 6.3).
+/// Judges what precedes the `is` of a body inside the unit (ARM 6.3).
 fn nested_head<A: Answers>(
     state: &mut CheckState,
     specification: &Specification,
@@ -110,7 +113,7 @@ fn nested_head<A: Answers>(
     head_of(state, first_line(specification), heading, recorder)
 }
 
-/// The head of the body of an operation.
+/// Judges the head of the body of an operation.
 fn operation_of<A: Answers>(
     state: &mut CheckState,
     line: usize,
@@ -133,7 +136,7 @@ fn operation_of<A: Answers>(
     settle_operation(state, heading, checked)
 }
 
-/// What stands before the `is` of the body of a subprogram of a protected object (ARM 9.5.1).
+/// Judges what precedes the `is` of the body of a protected subprogram (ARM 9.5.1).
 fn operation_head<A: Answers>(
     state: &mut CheckState,
     specification: &Specification,
@@ -147,7 +150,10 @@ fn operation_head<A: Answers>(
     operation_of(state, first_line(specification), heading, recorder)
 }
 
-/// What stands before the `is` of a subprogram's body that isn't the unit (ARM 6.3, 9.5.1).
+/// Judges what precedes the `is` of a subprogram's body, if that isn't the unit itself (ARM 6.3, 9.5.1).
+///
+/// # Errors
+/// `NoMemory` if the allocator refuses memory.
 pub fn inner_head<A: Answers>(
     state: &mut CheckState,
     specification: &Specification,

@@ -1,4 +1,10 @@
-//! Declarations, heads, stubs and bodies of a text where the check of its unit stands, and the objects that they declare.
+//! Declarations, heads, stubs and bodies at the place that the check of a unit has reached, and the objects that they declare.
+//!
+//! - Each is *judged*: looked at as the table of answers shows other units. `declarations`, `objects`, `heads`, `entry`, `barrier` and `whole` (a
+//!   unit that is one subprogram) do this.
+//! - It is then *settled* (module `settled`): if it is right, the state goes on with what it declares; else the error ends the list.
+//! - `bodies` and `object` enter bodies, private parts and protected bodies. `region` has the two forms of a protected body's region: in that of a
+//!   function, components are constants.
 #![tactic(auto)]
 
 mod barrier;

@@ -1,4 +1,4 @@
-// Protected bodies are entered and left.
+// How the check enters and leaves protected bodies.
 ghost use Rattle.std.specs.Prelude.{◌≡◌, Some, map, IfOk, OnOk};
 ghost use Rattle.al_check_declared.specs.OpenObjects.{barrier_fault_here, entered_anew, fault_by, in_object, inside, is_of_object, object_left, object_opened, opened_object, out_of_object, renewed, renewed_by, renewed_in};
 ghost use Rattle.al_decl.specs.Regions.{outside_of};
@@ -22,7 +22,7 @@ use al_view_predefined::StandardTypes;
 use al_view_typed::EntryOf;
 use std::alloc::Global;
 
-/// The region in which the operations wait for their bodies: what waits and is declared round it.
+/// Enters the region in which operations wait for their bodies, and gives what was declared and what waited outside of it.
 fn enter_inside(
     alloc: Global,
     standard: &StandardTypes,
@@ -39,7 +39,7 @@ fn enter_inside(
     Ok(outside)
 }
 
-/// The place is in that object, round whose body this waits and is declared.
+/// Keeps the object whose body the place is in, with what was declared and what waited outside of that body.
 fn keep_object(
     alloc: Global,
     state: &mut CheckState,
@@ -78,7 +78,10 @@ fn enter_object(
     keep_object(alloc, state, view, object, entry, outside)
 }
 
-/// Enters the body of a protected object of that view, with the bodies of its operations (ARM 9.4).
+/// Enters the body of the protected object with this view (ARM 9.4).
+///
+/// # Errors
+/// `NoMemory` if the allocator refuses memory.
 pub fn open_object(
     alloc: Global,
     state: &mut CheckState,
@@ -93,7 +96,7 @@ pub fn open_object(
     }
 }
 
-/// Outside of an object, which has been taken away.
+/// Leaves the body of an object that has been taken from the state.
 fn leave_open(state: &mut CheckState, object: OpenObject)
     ensures { state.new ≡ out_of_object state.old (Some object) }
 {
@@ -102,7 +105,7 @@ fn leave_open(state: &mut CheckState, object: OpenObject)
     state.unit.labeller.own = None;
 }
 
-/// Leaves the body of the protected object in which the place is, if any: what waited and was declared round it goes on.
+/// Leaves the body of the protected object that the place is in, if there is one: what was declared and what waited outside of it is back.
 pub fn leave_object(state: &mut CheckState)
     ensures { state.new ≡ object_left state.old }
 {
@@ -112,7 +115,7 @@ pub fn leave_object(state: &mut CheckState)
     }
 }
 
-/// Whether a body stands in a protected body.
+/// Whether a body with this role is in a protected body.
 pub fn is_of_object(role: BodyRole) -> bool
     ensures { result ≡ is_of_object role }
 {
@@ -137,7 +140,7 @@ fn enter_anew(
     enter_region(alloc, standard, env, object, is_constant)
 }
 
-/// The region has that form: where it has it already, nothing is entered.
+/// Gives the region this form. If it has the form already, nothing is done.
 fn renew_object(
     alloc: Global,
     standard: &StandardTypes,
@@ -183,8 +186,11 @@ fn renew_in(alloc: Global, state: &mut CheckState, is_constant: bool) -> Result<
     }
 }
 
-/// Before the body of an operation the region of the object is entered anew where it hasn't the form that this body sees: in that of a function
-/// the components are constants (ARM 9.5.1(2)). Bodies of one kind that follow one another are all in one region.
+/// Gives the region of the protected object the form that the next body sees, before that body: in the body of a function the components are
+/// constants (ARM 9.5.1(2)). Bodies of one form that follow one another share a region.
+///
+/// # Errors
+/// `NoMemory` if the allocator refuses memory.
 pub fn renew_region(
     alloc: Global,
     state: &mut CheckState,
@@ -209,7 +215,10 @@ fn fault_by(
     }
 }
 
-/// What is wrong with the barrier of an entry's body in that object.
+/// What is wrong with the barrier of an entry's body in the protected object that the place is in.
+///
+/// # Errors
+/// `NoMemory` if the allocator refuses memory.
 pub fn barrier_fault_here(
     alloc: Global,
     state: &CheckState,

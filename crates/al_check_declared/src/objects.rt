@@ -1,4 +1,4 @@
-// Tasks and protected objects where the check of a unit stands (ARM 9.1, 9.4, 9.5.2).
+// Tasks and protected objects at the place that the check of a unit has reached (ARM 9.1, 9.4, 9.5.2).
 ghost use Rattle.std.specs.Prelude.{◌≡◌, ◌<◌, length, map, IfOk};
 ghost use Rattle.al_base_fault.specs.Judging.{map_ok};
 ghost use Rattle.al_check_declared.specs.ObjectsHere.{entry_head, object_entered, object_here, task_head, task_here};
@@ -21,7 +21,10 @@ use al_decl_protected::{check_named_body, check_protected, check_task};
 use al_query::{Answers, Recorder};
 use al_tree::{Expression, Identifier, OperationBody, ProtectedDefinition, TaskDeclaration};
 
-/// The declaration of a task (ARM 9.1).
+/// Judges the declaration of a task (ARM 9.1).
+///
+/// # Errors
+/// `NoMemory` if the allocator refuses memory.
 pub fn declare_task<A: Answers>(
     state: &mut CheckState,
     task: &TaskDeclaration,
@@ -43,7 +46,10 @@ pub fn declare_task<A: Answers>(
     settle_effect(state.unit.labeller.alloc, state, checked)
 }
 
-/// The declaration of a protected object, whose first token stands on that line (ARM 9.4).
+/// Judges the declaration of a protected object, whose first token is on line `line` (ARM 9.4).
+///
+/// # Errors
+/// `NoMemory` if the allocator refuses memory.
 pub fn declare_object<A: Answers>(
     state: &mut CheckState,
     line: usize,
@@ -74,7 +80,10 @@ pub fn declare_object<A: Answers>(
     settle_effect(state.unit.labeller.alloc, state, checked)
 }
 
-/// What stands before the `is` of a task's body (ARM 9.1).
+/// Judges what precedes the `is` of a task's body (ARM 9.1).
+///
+/// # Errors
+/// `NoMemory` if the allocator refuses memory.
 pub fn task_head<A: Answers>(
     state: &mut CheckState,
     task_name: &Identifier,
@@ -98,7 +107,10 @@ pub fn task_head<A: Answers>(
     settle_named(state, BodyRole::Task, name, checked)
 }
 
-/// What stands before the `is` of an entry's body: its name and its barrier (ARM 9.5.2).
+/// Judges what precedes the `is` of an entry's body: its name and its barrier (ARM 9.5.2).
+///
+/// # Errors
+/// `NoMemory` if the allocator refuses memory.
 pub fn entry_head<A: Answers>(
     state: &mut CheckState,
     entry_name: &Identifier,
@@ -124,7 +136,10 @@ pub fn entry_head<A: Answers>(
     settle_named(state, BodyRole::Entry, name, unless(wrong, checked))
 }
 
-/// What stands before the operations of a protected body, whose first token stands on that line (ARM 9.4).
+/// Judges what precedes the operations of a protected body, whose first token is on line `line` (ARM 9.4), and enters that body.
+///
+/// # Errors
+/// `NoMemory` if the allocator refuses memory.
 pub fn enter_object<A: Answers>(
     state: &mut CheckState,
     line: usize,

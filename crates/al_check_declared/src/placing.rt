@@ -1,4 +1,4 @@
-// Heads of bodies and stubs, as a table of answers tells them (ARM 6.3, 10.1.3).
+// Heads of bodies and stubs, judged by the table of answers (ARM 6.3, 10.1.3).
 ghost use Rattle.std.specs.Prelude.{◌≡◌, ◌<◌, length, IfOk, OnOk};
 ghost use Rattle.al_decl.specs.Checking.{at_place};
 ghost use Rattle.al_decl.specs.Bodies.{placed_model};
@@ -19,7 +19,7 @@ use al_tree::Specification;
 use al_view_predefined::StandardTypes;
 use std::alloc::Global;
 
-/// What stands before the `is` of a body, or is a subprogram's declaration. The place is the same after it.
+/// Judges what precedes the `is` of a body, or is a subprogram's declaration. The place is the same after it.
 pub(crate) fn heading_here<A: Answers>(
     state: &mut CheckState,
     specification: &Specification,
@@ -46,7 +46,7 @@ pub(crate) fn heading_here<A: Answers>(
     )
 }
 
-/// A body or stub with that head, which completes what waits first with its name and its types.
+/// Judges a body or stub with this head: it completes the first declaration that waits with its name and its types.
 pub(crate) fn body_at<A: Answers>(
     alloc: Global,
     standard: &StandardTypes,
@@ -63,7 +63,7 @@ pub(crate) fn body_at<A: Answers>(
     place_body(alloc, standard, env, line, stub, true, heading, recorder)
 }
 
-/// The body of a subprogram of a protected object with that head, which completes a declaration of the object (ARM 9.4(10)).
+/// Judges the head of the body of a protected subprogram, which completes a declaration of the object (ARM 9.4(10)).
 pub(crate) fn operation_at<A: Answers>(
     alloc: Global,
     standard: &StandardTypes,

@@ -15,7 +15,7 @@ use al_view::{
 use al_view_predefined::StandardTypes;
 use std::alloc::Global;
 
-/// An operation is visible.
+/// Makes an operation visible.
 fn declare_operation(
     alloc: Global,
     env: &mut Environment,
@@ -46,7 +46,7 @@ fn declare_operations(
     Ok(())
 }
 
-/// A component in the words of its object from that one on.
+/// The view of a component whose first word in its object is `word`.
 fn component_view(
     alloc: Global,
     object: &ProtectedView,
@@ -73,7 +73,7 @@ fn component_view(
     }
 }
 
-/// The word after a component that begins at that one.
+/// The word after a component whose first word is `word`.
 pub(crate) fn word_after(
     standard: &StandardTypes,
     object: &ProtectedView,
@@ -86,7 +86,7 @@ pub(crate) fn word_after(
     word.saturating_add(words)
 }
 
-/// A component is visible: the word after it.
+/// Makes a component visible, and gives the word after it.
 fn declare_component(
     alloc: Global,
     standard: &StandardTypes,
@@ -126,7 +126,7 @@ fn declare_components(
     Ok(())
 }
 
-/// A region of the object, in which nothing is declared yet.
+/// Enters a region of the object in which nothing is declared yet.
 fn enter_alone(alloc: Global, env: &mut Environment, object: &ProtectedView) -> Result<(), NoMemory>
     ensures entered { OnOk result (env.new ≡ entered_alone env.old object.now.symbol) }
     ensures inside { OnOk result (0 < length env.new.scope.regions) }
@@ -137,7 +137,7 @@ fn enter_alone(alloc: Global, env: &mut Environment, object: &ProtectedView) -> 
     Ok(())
 }
 
-/// The region of a protected body, in which its operations and components are visible (ARM 8.1). In the body of a function of the object the
+/// Enters the region of a protected body, in which its operations and components are visible (ARM 8.1). In the body of a protected function the
 /// components are constants (ARM 9.5.1(2)).
 pub(crate) fn enter_region(
     alloc: Global,
@@ -154,7 +154,7 @@ pub(crate) fn enter_region(
     declare_components(alloc, standard, env, object, components, is_constant)
 }
 
-/// Whether it is an object that is a constant, or that is a variable.
+/// Whether the view is of an object that is a constant, if `is_constant`, or a variable, if not.
 fn is_object(view: &View, is_constant: bool) -> bool
     ensures { result ≡ is_object is_constant view.now }
 {
@@ -181,7 +181,7 @@ fn is_first_object(views: &[View], is_constant: bool) -> bool
     }
 }
 
-/// Whether the innermost region has these components in that form, as the first of them tells; without any both forms are the same.
+/// Whether the innermost region has these components in this form. The first component decides; without components both forms are the same.
 pub(crate) fn has_form(scope: &Scope, components: &[Component], is_constant: bool) -> bool
     ensures { result ≡ has_form is_constant components.now scope.now.regions }
 {

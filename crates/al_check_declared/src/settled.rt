@@ -1,4 +1,4 @@
-// Behind what was judged: the place goes on where it is right, else the list of faults ends there.
+// What follows a judgement: if what was judged is right, the place goes on with it; else the list of errors ends there.
 ghost use Rattle.std.specs.Prelude.{◌≡◌, Ok, map, option_map, IfOk, OnOk};
 ghost use Rattle.al_check_here.specs.Faulty.{effect_list};
 ghost use Rattle.al_decl.specs.Checking.{at_place};
@@ -33,10 +33,10 @@ use al_view::{Seq, Symbol, View, ViewKind};
 use al_view_typed::TypedDeclaration;
 use std::alloc::Global;
 
-/// What declarations do where they stand, or their fault.
+/// What declarations do at run time, or the first error in them.
 pub type Effects = CheckResult<Vec<TypedDeclaration>>;
 
-/// A fault, after which nothing of the place is looked at any more.
+/// Ends the list of errors with this error: nothing of the place is looked at any more.
 fn faulty(alloc: Global, state: &mut CheckState, fault: Fault) -> Result<Effects, NoMemory>
     ensures { IfOk result (λ checked. (state.new, map_ok effects_model checked) ≡ faulty_here state.old fault) }
 {
@@ -44,14 +44,17 @@ fn faulty(alloc: Global, state: &mut CheckState, fault: Fault) -> Result<Effects
     Ok(Err(fault))
 }
 
-/// Outside of all regions nothing is declared.
+/// The error outside of all regions, where nothing can be declared.
+///
+/// # Errors
+/// `NoMemory` if the allocator refuses memory.
 pub fn no_place(state: &mut CheckState) -> Result<Effects, NoMemory>
     ensures { IfOk result (λ checked. (state.new, map_ok effects_model checked) ≡ no_place state.old) }
 {
     faulty(state.unit.labeller.alloc, state, not_yet_fault())
 }
 
-/// Behind use clauses.
+/// Takes the result of judging use clauses.
 pub(crate) fn settle_uses(
     state: &mut CheckState,
     checked: CheckResult<Seq<UseClause>>,
@@ -68,7 +71,7 @@ pub(crate) fn settle_uses(
     }
 }
 
-/// Behind a pragma.
+/// Takes the result of judging a pragma.
 pub(crate) fn settle_pragma(
     state: &mut CheckState,
     wrong: Option<Fault>,
@@ -82,7 +85,7 @@ pub(crate) fn settle_pragma(
     }
 }
 
-/// What a right one does where it stands.
+/// What a declaration that is right does at run time.
 fn right(alloc: Global, effect: Option<TypedDeclaration>) -> Result<Effects, NoMemory>
     ensures { IfOk result (λ effects. map_ok effects_model effects ≡ Ok (effect_list (option_map declaration_model effect))) }
 {
@@ -92,7 +95,7 @@ fn right(alloc: Global, effect: Option<TypedDeclaration>) -> Result<Effects, NoM
     }
 }
 
-/// A stub that is right stands here.
+/// Adds a stub that is right.
 fn keep_stub(
     state: &mut CheckState,
     heading: &Heading,
@@ -107,7 +110,7 @@ fn keep_stub(
     Ok(effects)
 }
 
-/// Behind a stub with that head.
+/// Takes the result of judging a stub with this head.
 pub(crate) fn settle_stub(
     state: &mut CheckState,
     heading: &Heading,
@@ -121,7 +124,7 @@ pub(crate) fn settle_stub(
     }
 }
 
-/// A head is kept until its body is entered.
+/// Keeps a head until its body is entered.
 pub(crate) fn keep_head(state: &mut CheckState, role: BodyRole, heading: Heading, symbol: Symbol)
     ensures { state.new ≡ with_head state.old state.old.env role heading symbol }
 {
@@ -132,7 +135,7 @@ pub(crate) fn keep_head(state: &mut CheckState, role: BodyRole, heading: Heading
     });
 }
 
-/// Behind the head of a body inside the unit.
+/// Takes the result of judging the head of a body inside the unit.
 pub(crate) fn settle_head(
     state: &mut CheckState,
     heading: Heading,
@@ -151,7 +154,7 @@ pub(crate) fn settle_head(
     }
 }
 
-/// Behind the head of the body of an operation of a protected object: what is elaborated is the object as a whole.
+/// Takes the result of judging the head of an operation's body. Only the protected object as a whole is elaborated.
 pub(crate) fn settle_operation(
     state: &mut CheckState,
     heading: Heading,
@@ -170,7 +173,7 @@ pub(crate) fn settle_operation(
     }
 }
 
-/// What the code of a body is known by that completes what has this view.
+/// The symbol of the body that completes a declaration with this view.
 fn view_symbol(alloc: Global, state: &CheckState, view: &View) -> Result<Symbol, NoMemory>
     ensures { IfOk result (λ symbol. symbol ≡ view_symbol state.now view.now) }
 {
@@ -188,7 +191,7 @@ fn view_symbol(alloc: Global, state: &CheckState, view: &View) -> Result<Symbol,
     }
 }
 
-/// Behind the head of a body that has a name alone.
+/// Takes the result of judging the head of a body that has only a name.
 pub(crate) fn settle_named(
     state: &mut CheckState,
     role: BodyRole,
@@ -208,7 +211,7 @@ pub(crate) fn settle_named(
     }
 }
 
-/// Behind what stands before the operations of a protected body.
+/// Takes the result of judging what precedes the operations of a protected body.
 pub(crate) fn settle_object(
     state: &mut CheckState,
     operations: &[OperationBody],
@@ -227,7 +230,7 @@ pub(crate) fn settle_object(
     }
 }
 
-/// Behind the declaration of a unit that is one subprogram.
+/// Takes the result of judging the declaration of a unit that is one subprogram.
 pub(crate) fn settle_own(
     state: &mut CheckState,
     checked: CheckResult<Declared>,
@@ -256,7 +259,7 @@ fn mention_own(scope: &mut Scope, unit_name: &Name, own: &Declaration) -> Result
     Ok(())
 }
 
-/// The unit is mentioned with its own views.
+/// Makes the unit visible under its name, with its own views.
 fn mention_all(scope: &mut Scope, unit_name: &Name, own: &[Declaration]) -> Result<(), NoMemory>
     ensures { OnOk result (scope.new ≡ with_own unit_name.now scope.old own.now) }
 {
@@ -266,7 +269,7 @@ fn mention_all(scope: &mut Scope, unit_name: &Name, own: &[Declaration]) -> Resu
     Ok(())
 }
 
-/// The body of a unit that is one subprogram is right.
+/// Keeps the head of the body of a unit that is one subprogram, which is right.
 fn keep_whole(
     state: &mut CheckState,
     heading: Heading,
@@ -286,7 +289,7 @@ fn keep_whole(
     right(state.unit.labeller.alloc, effect)
 }
 
-/// Behind the head of the body of a unit that is one subprogram.
+/// Takes the result of judging the head of the body of a unit that is one subprogram.
 pub(crate) fn settle_whole(
     state: &mut CheckState,
     heading: Heading,

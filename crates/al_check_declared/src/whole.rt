@@ -17,7 +17,7 @@ use al_query::{Answers, Recorder};
 use al_stmts::first_line;
 use al_tree::Specification;
 
-/// The head of a unit, whose name may have dots.
+/// Judges the head of a unit, whose name may have dots.
 fn unit_heading<A: Answers>(
     state: &mut CheckState,
     specification: &Specification,
@@ -48,7 +48,10 @@ fn whole_of(state: &mut CheckState, line: usize, heading: &Heading) -> Result<Ef
     settle_own(state, checked)
 }
 
-/// The declaration of a unit that is one subprogram.
+/// Judges the declaration of a unit that is one subprogram.
+///
+/// # Errors
+/// `NoMemory` if the allocator refuses memory.
 pub fn whole_subprogram<A: Answers>(
     state: &mut CheckState,
     specification: &Specification,
@@ -82,7 +85,10 @@ fn whole_head_of(state: &mut CheckState, line: usize, heading: Heading) -> Resul
     settle_whole(state, heading, checked)
 }
 
-/// What stands before the `is` of the body of a unit that is one subprogram.
+/// Judges what precedes the `is` of the body of a unit that is one subprogram.
+///
+/// # Errors
+/// `NoMemory` if the allocator refuses memory.
 pub fn whole_head<A: Answers>(
     state: &mut CheckState,
     specification: &Specification,

@@ -17,7 +17,7 @@ use Rattle.al_view.specs.declared.types.StaticValue.{StaticValue}
 abbrev pub number : Labels → StaticValue → TypedTree
 number labels value = Labelled labels (LiteralForm value)
 
--- a membership of three numbers uses nothing, whatever their types are
+-- a membership of three numbers uses no link, whatever their types are
 abbrev pub TypesAreNotUsed : Type 0
 TypesAreNotUsed =
     (of_all of_value of_low of_high : Labels) (value low high : StaticValue) (slot : ℕ)
@@ -59,6 +59,6 @@ inner_subunit = record {
   is_parameterless_procedure = true;
 }
 
--- it is asked what the unit is, with this answer, and nothing else
+-- only the question what the unit is was asked, with this answer
 abbrev pub asks_form : UnitKey → AnswerKind → List (Query × AnswerKind)
 asks_form unit answer = (Of unit Kind, answer) ∷ []

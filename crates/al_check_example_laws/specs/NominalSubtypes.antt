@@ -34,7 +34,7 @@ one_and_two = (Range (between 1 1) ∷ []) ∷ (Range (between 2 2) ∷ []) ∷ 
 abbrev pub CasesCoverNominalSubtypes : Type 0
 CasesCoverNominalSubtypes = AreRight (held_against (Some subtype) whole_type) one_and_two × (AreRight (held_against None whole_type) one_and_two → ⊥)
 
--- what is assigned to a variable is checked against the range of its nominal subtype (ARM 5.2(11))
+-- a value that is assigned to a variable is checked against the range of its nominal subtype (ARM 5.2(11))
 abbrev pub AssignmentsCheckNominalSubtypes : Type 0
 AssignmentsCheckNominalSubtypes =
     (line : ℕ) (labels : Labels) (place : ObjectPlace) (value : TypedTree) → labels.bounds ≡ Some subtype

@@ -1,4 +1,4 @@
-//! Examples of what a unit uses and which bodies its text names, as laws.
+//! Examples of the links that a unit uses and of the bodies that its source names, as laws.
 #![tactic(auto)]
 
 pub mod laws;

@@ -8,7 +8,7 @@ use Rattle.al_view.specs.Named.{Declarations}
 pub use Rattle.al_scope.proofs.Lists.{folded, folded_at, mapped, no_value, one_value}
 pub use Rattle.al_scope.proofs.Outcomes.{if_ok, on_ok}
 
--- what stands before the last element
+-- what precedes the last element
 pub before_last : {A : Type 0} (xs ys : List A) (x : A) → xs ≡ ys ++ x ∷ [] → ys ≡ take (length xs - 1) xs
 before_last {A} xs ys x e =
     let n : length ys ≡ length xs - 1 = omega (arith, ap length e, length-append ys (x ∷ [])) in

@@ -1,4 +1,4 @@
--- Bodies at a place (ARM 6.3, 6.5, 8.1, 9.1, 9.5.1, 9.5.2).
+-- Bodies at the place that the check of a unit has reached (ARM 6.3, 6.5, 8.1, 9.1, 9.5.1, 9.5.2).
 use Rattle.std.specs.Prelude.{ℕ, ◌-◌, List, [], ◌∷◌, ◌++◌, fold, Option, Some, None, Result, Ok, Err, if◌then◌else◌}
 use Rattle.std.specs.List.{filter_map}
 use Rattle.al_decl.specs.Regions.{outside_of, set_aside, subprogram_entered, taken_back, with_formals_declared}
@@ -37,7 +37,7 @@ use Rattle.al_check_here.specs.declared.state.OpenBody.{OpenBody}
 use Rattle.al_check_here.specs.declared.state.OpenObject.{OpenObject}
 use Rattle.al_check_here.specs.declared.state.CheckState.{CheckState}
 
--- ---- what returns in a body stand in (ARM 6.5)
+-- ---- the context of return statements in a body (ARM 6.5)
 
 abbrev pub value_context : Result SubtypeView Fault → ReturnContext
 value_context (Ok of) = record { body = bodies.Function; words = words_of of; bounds = of.subtype.bounds }
@@ -47,7 +47,7 @@ abbrev pub return_context : ReturnedPart → ReturnContext
 return_context NoValue = record { body = bodies.Procedure; words = 0; bounds = None }
 return_context (Value of) = value_context of
 
--- by what a body is of
+-- the context by the role of the body
 abbrev pub role_context : BodyRole → ReturnedPart → ReturnContext
 role_context roles.Subprogram returned = return_context returned
 role_context roles.Task returned = record { body = bodies.Task; words = 0; bounds = None }
@@ -62,7 +62,7 @@ abbrev pub result_subtype : ReturnedPart → Option SubtypeView
 result_subtype NoValue = None
 result_subtype (Value of) = right_subtype of
 
--- in no body stand the statements of a package
+-- in no body: the statements of a package
 abbrev pub in_package : ReturnContext
 in_package = record { body = bodies.Package; words = 0; bounds = None }
 
@@ -73,7 +73,7 @@ returns_of (Some b) = b.returns
 abbrev pub returns_in : CheckState → ReturnContext
 returns_in h = returns_of (innermost h.bodies)
 
--- ---- a body is entered
+-- ---- how a body is entered
 
 abbrev pub right_formals : Heading → List NewFormal
 right_formals head = filter_map new_formal head.formals
@@ -81,7 +81,7 @@ right_formals head = filter_map new_formal head.formals
 abbrev pub outer_frame : Environment → OuterFrame
 outer_frame env = record { depth = env.progress.depth; word = env.progress.words.frame }
 
--- a body with that head and with formals in these words, round which this stands; its frame goes on at the place
+-- a body with this head and with formals in these words, with what is outside of it; its frame goes on at the place
 abbrev pub open_of : CheckState → AnalyzedHeading → OuterFrame → Outside → List FormalWords → OpenBody
 open_of h read outer outside formals = record {
   role = read.role;
@@ -94,14 +94,14 @@ open_of h read outer outside formals = record {
   outside = outside;
 }
 
--- one more body round the place
+-- one more body encloses the place
 abbrev pub with_body : CheckState → AnalyzedHeading → OuterFrame → Outside → List FormalWords → CheckState
 with_body h read outer outside formals = record h {
   bodies = h.bodies ++ open_of h read outer outside formals ∷ [];
   pending = None;
 }
 
--- at a place in a body's region and frame, both just begun, the formals are declared
+-- the formals are declared at a place in a body's region and frame, which have just begun
 abbrev pub body_opened : CheckState → AnalyzedHeading → OuterFrame → Outside → CheckState
 body_opened h read outer outside =
     with_body (with_here h (with_formals_declared h.env (right_formals read.heading))) read outer outside
@@ -116,7 +116,7 @@ abbrev pub whole_entered : CheckState → AnalyzedHeading → CheckState
 whole_entered h read =
     body_opened (with_here h (set_aside (record h.env { progress = entered h.env.progress }))) read (outer_frame h.env) (outside_of h.env)
 
--- ---- a body is left
+-- ---- how a body is left
 
 -- the region of a unit that is one subprogram stays
 abbrev pub own_region_left : CheckState → CheckState
@@ -125,7 +125,7 @@ own_region_left h = with_here h (record h.env { scope = if is_whole h then h.env
 abbrev pub left_to : Environment → OpenBody → Environment
 left_to env b = taken_back (record env { progress = left_body b.outer.depth b.outer.word env.progress }) b.outside
 
--- outside of a body, which has been taken away
+-- the place after a body that has been taken from the state is left
 abbrev pub left_open : CheckState → OpenBody → CheckState
 left_open h b = with_here (own_region_left h) (left_to (own_region_left h).env b)
 
@@ -133,11 +133,11 @@ abbrev pub out_of_one : CheckState → Option OpenBody → CheckState
 out_of_one h None = h
 out_of_one h (Some b) = left_open (record h { bodies = without_innermost h.bodies }) b
 
--- where no body is open, nothing is left
+-- if no body is open, nothing is left
 abbrev pub out_of_body : CheckState → CheckState
 out_of_body h = out_of_one h (innermost h.bodies)
 
--- ---- a body with its labels
+-- ---- labelled bodies
 
 -- the words that a procedure copies back: those of its formals of mode `out` and `in out` (ARM 6.4.1(17))
 abbrev pub with_copied : ℕ → FormalWords → ℕ
@@ -146,22 +146,22 @@ with_copied words f = if is_input f.mode then words else place_after words f.wor
 abbrev pub copied_words : List FormalWords → ℕ
 copied_words formals = fold with_copied 0 formals
 
--- of a subprogram, by what it returns
+-- the kind of a subprogram's body, by what it returns
 abbrev pub subprogram_kind : EnclosingBody → ReturnContext → ℕ → ℕ → BodyKind
 subprogram_kind bodies.Function returns copied end = kinds.Function returns.words end
 subprogram_kind _ returns copied end = kinds.Procedure copied
 
--- of a subprogram of a protected object, which may open the object's entry
+-- the kind of the body of a protected subprogram, which may open the object's entry
 abbrev pub operation_kind : OpenObject → EnclosingBody → ReturnContext → ℕ → ℕ → BodyKind
 operation_kind object bodies.Function returns copied end = kinds.ProtectedFunction object.symbol returns.words end
 operation_kind object _ returns copied end = kinds.ProtectedProcedure object.symbol object.entry copied
 
--- of an entry with its barrier
+-- the kind of an entry's body, with its barrier
 abbrev pub entry_kind : OpenObject → Option EntryOf → BodyKind
 entry_kind object None = kinds.Procedure 0
 entry_kind object (Some e) = kinds.Entry object.symbol e.barrier
 
--- where no object is open, an operation is a subprogram
+-- if no object is open, an operation is a subprogram
 abbrev pub operation_in : Option OpenObject → ReturnContext → ℕ → ℕ → BodyKind
 operation_in None returns copied end = subprogram_kind returns.body returns copied end
 operation_in (Some o) returns copied end = operation_kind o returns.body returns copied end
@@ -181,7 +181,7 @@ abbrev pub frame_words : CheckState → Option OpenBody → ℕ
 frame_words h None = 0
 frame_words h (Some b) = word_of h - b.after
 
--- where no body is open, a procedure of the unit's name without formals
+-- if no body is open, a procedure with the unit's name without formals
 abbrev pub symbol_in : CheckState → Option OpenBody → Symbol
 symbol_in h None = h.unit.own.symbol
 symbol_in h (Some b) = b.symbol
@@ -194,7 +194,7 @@ abbrev pub kind_in : CheckState → ℕ → Option OpenBody → BodyKind
 kind_in h end None = kinds.Procedure 0
 kind_in h end (Some b) = kind_of h.object b.role b.returns (copied_words b.formals) end
 
--- a body with this inside it, whose `end` stands on that line
+-- a body with these contents, whose `end` is on that line
 abbrev pub labelled_body : CheckState → ℕ → ElaborationTree → Option OpenBody → BodyTree
 labelled_body h end inside body = record {
   symbol = symbol_in h body;

@@ -1,4 +1,4 @@
--- What the walk over a unit's text leaves.
+-- What the walk over a unit leaves at its end.
 use Rattle.std.specs.Prelude.{ℕ, List, [], map, drop}
 use Rattle.al_query_outcome.specs.declared.interface.Parts.{Parts}
 use Rattle.al_query_outcome.specs.declared.interface.StubDeclarations.{StubDeclarations}
@@ -16,20 +16,20 @@ use Rattle.al_check_here.specs.declared.state.UseHere.{UseHere}
 abbrev pub stub_names : List StubDeclarations → List (List ℕ)
 stub_names stubs = map (λ s. s.stub) stubs
 
--- the stubs that a use clause stands before
+-- the stubs that come after a use clause
 abbrev pub use_inside : List StubDeclarations → UseHere → UseInPart
 use_inside stubs u = record { part = u.part; clause = u.clause; before = stub_names (drop u.stubs stubs) }
 
 abbrev pub uses_inside : List StubDeclarations → List UseHere → List UseInPart
 uses_inside stubs uses = map (use_inside stubs) uses
 
--- what is declared in the part that the text ends in, where the visible part before it declares this
+-- what is declared in the part in which the unit ends, if the visible part before it declares this
 abbrev pub parts_ended : Part → Declarations → Declarations → List StubDeclarations → Parts
 parts_ended part.Visible visible declared stubs = record { visible = declared; private_part = []; body = []; stubs = stubs }
 parts_ended part.Private visible declared stubs = record { visible = visible; private_part = declared; body = []; stubs = stubs }
 parts_ended _ visible declared stubs = record { visible = []; private_part = []; body = declared; stubs = stubs }
 
--- what the visible part tells of the private types of ancestors: their partial views alone (ARM 7.3(5))
+-- the visible part shows only the partial views of private types of ancestors (ARM 7.3(5))
 abbrev pub hidden_by : Part → CheckState → CheckState
 hidden_by part.Visible h = record h { env = record h.env { declared = hidden_in h.unit.hidden h.env.declared } }
 hidden_by part.Private h = record h { visible = hidden_in h.unit.hidden h.visible }
@@ -38,7 +38,7 @@ hidden_by _ h = h
 abbrev pub hidden_declaration : List PrivateName → Declaration → Declaration
 hidden_declaration names d = record { name = d.name; view = hidden names d.view }
 
--- the same of the unit's own view
+-- the unit's own view shows only these too
 abbrev pub hidden_own : CheckState → CheckState
 hidden_own h = record h { own = map (hidden_declaration h.unit.hidden) h.own }
 
@@ -52,6 +52,6 @@ ends_of h = record {
   unit = h.unit;
 }
 
--- as it is told
+-- what the walk leaves, as others are shown it
 abbrev pub ends_told : CheckState → Ends
 ends_told h = ends_of (hidden_own (hidden_by h.part h))

@@ -13,15 +13,15 @@ use Rattle.al_check_here.specs.Standings.{is_immediate, with_progress}
 use Rattle.al_check_here.specs.declared.state.CheckState.{CheckState}
 use Rattle.al_check_here.specs.declared.state.UseHere.{UseHere}
 
--- the private part of a package's declaration begins: what stands before it is its visible part
+-- the private part of a package's declaration begins: what was declared before is its visible part
 abbrev pub private_begun : CheckState → CheckState
 private_begun h = record h { env = record h.env { declared = [] }; part = part.Private; visible = h.env.declared }
 
--- the statements of a package's body stand in the frame of the unit's elaboration
+-- the statements of a package's body are in the frame of the unit's elaboration
 abbrev pub in_statements : CheckState → CheckState
 in_statements h = with_progress h (record h.env.progress { depth = 1 })
 
--- ---- what is declared before a stub is told name by name
+-- ---- what is declared before a stub, name by name
 
 abbrev pub with_views : Declarations → List ℕ × List ViewKind → Declarations
 with_views answered named = fold (λ (d : Declarations) (v : ViewKind). with_view d named.0 v) answered named.1
@@ -29,11 +29,11 @@ with_views answered named = fold (λ (d : Declarations) (v : ViewKind). with_vie
 abbrev pub told_again : Declarations → Declarations
 told_again declared = fold with_views [] declared
 
--- the stub's own subprogram; whether that is elaborated is of no account in its body
+-- the stub's own subprogram; its body doesn't depend on whether that is elaborated
 abbrev pub stub_view : CheckState → Heading → Symbol → ViewKind
 stub_view h head symbol = subprogram_view symbol h.env.progress.depth None head
 
--- that subprogram is told beside it, under the reserved word, which no text can name: there a subunit finds what it completes
+-- the stub's own subprogram is shown under the reserved word `separate`, which is no identifier: there a subunit finds what it completes
 abbrev pub before_stub : CheckState → Heading → Symbol → Declarations
 before_stub h head symbol = with_view (told_again h.env.declared) (codes "separate") (stub_view h head symbol)
 
@@ -43,7 +43,7 @@ stub_here h head symbol = record { stub = head.name.name; symbol = symbol; befor
 abbrev pub with_stub : CheckState → Heading → Symbol → CheckState
 with_stub h head symbol = record h { stubs = h.stubs ++ stub_here h head symbol ∷ [] }
 
--- ---- use clauses that stand immediately in a part
+-- ---- use clauses that are immediately in a part
 
 abbrev pub use_here : CheckState → UseClause → UseHere
 use_here h clause = record { part = h.part; clause = clause; stubs = length h.stubs }

@@ -1,4 +1,4 @@
--- What stands round a place, the innermost last.
+-- A stack of what encloses a place, the innermost item last.
 use Rattle.std.specs.Prelude.{◌-◌, ◌==◌, List, Bool, Option, length, slice_get, take}
 
 abbrev pub innermost : {A : Type 0} → List A → Option A

@@ -1,4 +1,4 @@
--- Where the check of a unit stands.
+-- The state of the check of a unit.
 use Rattle.std.specs.Prelude.{ℕ, Bool, not, ◌&&◌, ◌==◌, List, [], Option, Some, None, is_some, length, if◌then◌else◌}
 use Rattle.al_base.specs.declared.unit_key.UnitKey.{UnitKey}
 use Rattle.al_base.specs.declared.unit_key.UnitKind.{UnitKind}
@@ -16,7 +16,7 @@ use Rattle.al_check_here.specs.Stacks.{is_bare}
 use Rattle.al_check_here.specs.declared.state.CheckState.{CheckState}
 use Rattle.al_check_here.specs.declared.state.UnitText.{UnitText}
 
--- ---- the start of a unit's text
+-- ---- the start of a unit
 
 abbrev pub part_of_kind : UnitKind → Part
 part_of_kind Decl = part.Visible
@@ -42,7 +42,7 @@ begun_at unit scope progress uncompleted = record {
   own = [];
 }
 
--- ---- parts of it
+-- ---- questions about a state
 
 abbrev pub with_here : CheckState → Environment → CheckState
 with_here h env = record h { env = env }
@@ -50,19 +50,19 @@ with_here h env = record h { env = env }
 abbrev pub with_progress : CheckState → Progress → CheckState
 with_progress h p = with_here h (record h.env { progress = p })
 
--- no region is open: no text stands there
+-- no region is open, as after an error that ended the list
 abbrev pub is_nowhere : CheckState → Bool
 is_nowhere h = is_bare h.env.scope.regions
 
--- the place is in no body yet, in the text of a unit that is one subprogram: the head and the body that come are the unit's own
+-- the place is in no body yet, and the unit is one subprogram: the next head and body are the unit's own
 abbrev pub is_whole : CheckState → Bool
 is_whole h = not h.unit.own.is_package && is_bare h.bodies
 
--- the place is immediately in a protected body: the heads and bodies that come are those of its operations
+-- the place is immediately in a protected body: the next heads and bodies are those of its operations
 abbrev pub is_operation : CheckState → Bool
 is_operation h = is_some h.object && is_bare h.bodies
 
--- the place is immediately in a part of the unit: of a package in no body, of a subprogram in its body
+-- the place is immediately in a part of the unit: for a package in no body, for a subprogram in its body
 abbrev pub is_immediate : CheckState → Bool
 is_immediate h = is_bare h.blocks && (if h.unit.own.is_package then is_bare h.bodies else length h.bodies == 1)
 

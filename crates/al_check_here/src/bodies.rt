@@ -1,4 +1,4 @@
-// Bodies of subprograms at a place.
+// Bodies of subprograms, tasks and entries: how the check enters and leaves them.
 ghost use Rattle.std.specs.Prelude.{◌≡◌, ◌<◌, Some, None, length, map, IfOk, OnOk};
 ghost use Rattle.al_decl_judged.specs.TypeObjects.{is_input};
 ghost use Rattle.al_view_typed.specs.StatementViews.{statement_model};
@@ -21,7 +21,7 @@ use al_view_typed::{
 };
 use std::alloc::Global;
 
-/// What returns stand in, in a body with that result.
+/// The context of return statements in a body with this result.
 fn return_context(standard: &StandardTypes, returned: &ReturnedPart) -> ReturnContext
     ensures { result ≡ return_context returned.now }
 {
@@ -44,7 +44,7 @@ fn return_context(standard: &StandardTypes, returned: &ReturnedPart) -> ReturnCo
     }
 }
 
-/// What returns stand in, in a body of that.
+/// The context of return statements in a body of this role.
 fn role_context(standard: &StandardTypes, role: BodyRole, returned: &ReturnedPart) -> ReturnContext
     ensures { result ≡ role_context role returned.now }
 {
@@ -64,7 +64,7 @@ fn role_context(standard: &StandardTypes, role: BodyRole, returned: &ReturnedPar
     }
 }
 
-/// The subtype of the result of a function whose mark is right.
+/// The subtype of a function's result, if its mark is right.
 fn result_subtype(returned: ReturnedPart) -> Option<SubtypeView>
     ensures { result ≡ result_subtype returned }
 {
@@ -75,7 +75,7 @@ fn result_subtype(returned: ReturnedPart) -> Option<SubtypeView>
     }
 }
 
-/// The result of a head, which is let go.
+/// The subtype of the result that a head names; the head is dropped.
 fn result_in(heading: Heading) -> Option<SubtypeView>
     ensures { result ≡ result_subtype heading.returned }
 {
@@ -83,7 +83,7 @@ fn result_in(heading: Heading) -> Option<SubtypeView>
     result_subtype(returned)
 }
 
-/// What return statements stand in, in the innermost body.
+/// The context of return statements at the place, from the innermost body; that of a package's body if no body is open.
 pub fn returns_in(state: &CheckState) -> ReturnContext
     ensures { result ≡ returns_in state.now }
 {
@@ -97,7 +97,7 @@ pub fn returns_in(state: &CheckState) -> ReturnContext
     }
 }
 
-/// One more body round the place, whose formals are declared.
+/// Opens one more body round the place, after its formals have been declared.
 fn push_body(
     state: &mut CheckState,
     read: AnalyzedHeading,
@@ -126,7 +126,7 @@ fn push_body(
     Ok(())
 }
 
-/// At a place in a body's region and frame, both just begun, the formals are declared; what stands round the body is this.
+/// Opens a body whose region and frame have just begun: declares its formals, and keeps what is outside of it.
 fn open_body(
     alloc: Global,
     state: &mut CheckState,
@@ -142,7 +142,10 @@ fn open_body(
     push_body(state, read, outer, outside, formals)
 }
 
-/// Enters a body in a region of its own, after its head (ARM 6.3, 8.1).
+/// Enters a body in a region of its own, after its head has been read (ARM 6.3, 8.1).
+///
+/// # Errors
+/// `NoMemory` if the allocator refuses memory.
 pub fn enter_nested(
     alloc: Global,
     state: &mut CheckState,
@@ -156,6 +159,9 @@ pub fn enter_nested(
 }
 
 /// Enters the body of a unit that is one subprogram, in the unit's own region.
+///
+/// # Errors
+/// `NoMemory` if the allocator refuses memory.
 pub fn enter_whole(
     alloc: Global,
     state: &mut CheckState,
@@ -169,7 +175,7 @@ pub fn enter_whole(
     open_body(alloc, state, read, OuterFrame { depth, word }, outside)
 }
 
-/// Leaves the region of a body, which has been taken away, unless it is that of the unit.
+/// Leaves the region of a body that has been popped, unless that region is the unit's own.
 fn leave_own_region(state: &mut CheckState)
     ensures { state.new ≡ own_region_left state.old }
 {
@@ -179,7 +185,7 @@ fn leave_own_region(state: &mut CheckState)
     leave_region(&mut state.env.scope);
 }
 
-/// Outside of a body, which has been taken away: its region is left, unless it is that of the unit.
+/// Leaves the frame and the region of a body that has been popped; what was declared and uncompleted outside of it is back.
 fn leave_open(state: &mut CheckState, body: OpenBody)
     ensures { state.new ≡ left_open state.old body }
 {
@@ -188,7 +194,7 @@ fn leave_open(state: &mut CheckState, body: OpenBody)
     take_back(&mut state.env, body.into_outside());
 }
 
-/// Leaves the innermost body, if one is open: the frame round it, and what waited and was declared there, go on.
+/// Leaves the innermost body, if one is open: the frame outside of it goes on, with its declarations and its uncompleted ones.
 pub fn leave_innermost(state: &mut CheckState)
     ensures { state.new ≡ out_of_body state.old }
 {
@@ -217,7 +223,7 @@ fn with_copied(words: u32, formal: &FormalWords) -> u32
     words.saturating_add(formal.words)
 }
 
-/// How many words a procedure with these formals copies back (ARM 6.4.1(17)).
+/// The number of words that a procedure with these formals copies back (ARM 6.4.1(17)).
 fn copied_words(formals: &[FormalWords]) -> u32
     ensures { result ≡ copied_words formals.now }
 {
@@ -238,7 +244,7 @@ fn copied_formals(alloc: Global, formals: &[FormalWords]) -> Result<Seq<FormalWo
     Ok(copy)
 }
 
-/// A body that is open with its labels, without what stands inside it.
+/// The labelled form of an open body with these contents. Its `end` is on line `end`.
 fn open_labelled(
     alloc: Global,
     state: &CheckState,
@@ -278,7 +284,7 @@ fn none_labelled(
     })
 }
 
-/// The words of the frame after the formals.
+/// The number of words of the innermost body's frame that come after its formals.
 fn frame_words(state: &CheckState) -> u32
     ensures { result ≡ frame_words state.now (innermost state.now.bodies) }
 {
@@ -288,7 +294,7 @@ fn frame_words(state: &CheckState) -> u32
     }
 }
 
-/// The innermost body with its labels and this inside it, whose `end` stands on that line.
+/// The labelled form of the innermost body with these contents. Its `end` is on line `end`.
 fn labelled_inside(
     alloc: Global,
     state: &CheckState,
@@ -303,7 +309,10 @@ fn labelled_inside(
     }
 }
 
-/// The innermost body with its labels, after what stands inside it.
+/// The labelled form of the innermost body with its declarations and statements.
+///
+/// # Errors
+/// `NoMemory` if the allocator refuses memory.
 pub fn labelled(
     alloc: Global,
     state: &CheckState,

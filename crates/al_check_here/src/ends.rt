@@ -1,4 +1,4 @@
-// What the walk over a unit's text leaves.
+// What the walk over a unit leaves at its end.
 ghost use Rattle.std.specs.Prelude.{◌≡◌, ◌++◌, ◌∷◌, [], drop, map, IfOk, OnOk};
 ghost use Rattle.al_scope.specs.Hidden.{hidden, hidden_in};
 ghost use Rattle.al_check_here.specs.Ends.{ends_of, ends_told, hidden_by, hidden_declaration, hidden_own, parts_ended, stub_names, use_inside, uses_inside};
@@ -13,18 +13,19 @@ use al_view::{Interface, Part, Seq};
 use std::alloc::Global;
 use std::mem;
 
-/// What the walk over a unit's text leaves.
+/// What the walk over a unit leaves at its end.
 pub struct Ends {
-    /// Its words, its objects and its flags.
+    /// The words, objects and flags that the unit takes.
     pub progress: Progress,
-    /// What its declaration leaves to its body.
+    /// The declarations that the unit leaves to its body to complete.
     pub completions: Seq<Completion>,
-    /// What its parts declare, with its stubs.
+    /// What the unit's parts declare, and its stubs.
     pub parts: Parts,
-    /// The use clauses that stand immediately in its parts.
+    /// The use clauses that are immediately in the unit's parts.
     pub uses: Seq<UseInPart>,
-    /// Of a library subprogram, or of a body that acts as its declaration, its name with its own view.
+    /// The unit's own name and view, if it is a library subprogram's declaration, or a body that acts as one.
     pub own: Seq<Declaration>,
+    /// The unit that was walked, with what was known of it before.
     pub unit: UnitText,
 }
 
@@ -42,7 +43,7 @@ impl Drop for Ends {
 }
 
 impl Ends {
-    /// What the unit's own text says, and what the walk left, without what it stood on. It takes no memory.
+    /// The unit's own header, and what the walk left. It takes no memory.
     pub fn into_parts(
         self,
     ) -> (
@@ -82,7 +83,10 @@ fn add_name(alloc: Global, names: &mut Seq<Name>, stub: &StubDeclarations) -> Re
     Ok(())
 }
 
-/// The names of stubs.
+/// The names of the stubs, in their order.
+///
+/// # Errors
+/// `NoMemory` if the allocator refuses memory.
 pub fn stub_names(alloc: Global, stubs: &[StubDeclarations]) -> Result<Seq<Name>, NoMemory>
     ensures { IfOk result (λ names. names ≡ stub_names stubs.now) }
 {
@@ -93,7 +97,7 @@ pub fn stub_names(alloc: Global, stubs: &[StubDeclarations]) -> Result<Seq<Name>
     Ok(names)
 }
 
-/// The stubs after so many of them.
+/// The stubs after the first `number` of them.
 fn stubs_after(stubs: &[StubDeclarations], number: usize) -> &[StubDeclarations]
     ensures { result.now ≡ drop number stubs.now }
 {
@@ -179,7 +183,7 @@ pub(crate) fn parts_ended(
     }
 }
 
-/// What the private part declares, where the text ends in it.
+/// What the private part declares, if the unit ends in it; else nothing.
 pub fn into_private_part(alloc: Global, state: CheckState) -> Interface
     ensures { result ≡ (ends_of state).parts.private_part }
 {
@@ -192,7 +196,7 @@ pub fn into_private_part(alloc: Global, state: CheckState) -> Interface
     }
 }
 
-/// What is declared, in whose place stands what is told of it.
+/// Replaces each declared view by what other units may see of it.
 fn hide(alloc: Global, names: &[PrivateName], declared: &mut Interface) -> Result<(), NoMemory>
     ensures { OnOk result (declared.new ≡ hidden_in names.now declared.old) }
 {
@@ -201,7 +205,7 @@ fn hide(alloc: Global, names: &[PrivateName], declared: &mut Interface) -> Resul
     Ok(())
 }
 
-/// What the visible part tells of the private types of ancestors: their partial views alone (ARM 7.3(5)).
+/// Hides the private types of ancestors in what the visible part shows: only their partial views are left (ARM 7.3(5)).
 fn hide_visible(alloc: Global, state: &mut CheckState) -> Result<(), NoMemory>
     ensures { OnOk result (state.new ≡ hidden_by state.old.part state.old) }
 {
@@ -239,7 +243,7 @@ fn hidden_declarations(
     Ok(answered)
 }
 
-/// The same of the unit's own view.
+/// Hides the private types of ancestors in the unit's own view.
 fn hide_own(alloc: Global, state: &mut CheckState) -> Result<(), NoMemory>
     ensures { OnOk result (state.new ≡ hidden_own state.old) }
 {
@@ -248,7 +252,10 @@ fn hide_own(alloc: Global, state: &mut CheckState) -> Result<(), NoMemory>
     Ok(())
 }
 
-/// What is left after the end of a unit's text.
+/// What the walk leaves at the end of a unit, with private types of ancestors hidden.
+///
+/// # Errors
+/// `NoMemory` if the allocator refuses memory.
 pub fn into_ends(alloc: Global, state: CheckState) -> Result<Ends, NoMemory>
     ensures { IfOk result (λ ends. ends ≡ ends_told state) }
 {

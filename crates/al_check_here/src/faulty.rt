@@ -1,4 +1,4 @@
-// Behind a fault of a declaration.
+// What follows a declaration with an error.
 ghost use Rattle.std.specs.Prelude.{◌≡◌, option_map, IfOk, OnOk};
 ghost use Rattle.al_decl.specs.Checking.{at_place};
 ghost use Rattle.al_base_fault.specs.Judging.{map_ok};
@@ -16,7 +16,7 @@ use al_view::{Interface, Seq, copied_unit};
 use al_view_typed::TypedDeclaration;
 use std::alloc::Global;
 
-/// Nothing was taken in that unit.
+/// The counters of a unit in which no word, object or flag is taken.
 fn nothing_taken(alloc: Global, unit: &UnitKey) -> Result<Progress, NoMemory>
     ensures { IfOk result (λ progress. progress ≡ nothing_taken unit.now) }
 {
@@ -32,7 +32,7 @@ fn nothing_taken(alloc: Global, unit: &UnitKey) -> Result<Progress, NoMemory>
     })
 }
 
-/// Outside of all regions.
+/// The environment outside of all regions.
 fn nowhere(alloc: Global, unit: &UnitKey) -> Result<Environment, NoMemory>
     ensures { IfOk result (λ env. env ≡ nowhere unit.now) }
 {
@@ -45,7 +45,10 @@ fn nowhere(alloc: Global, unit: &UnitKey) -> Result<Environment, NoMemory>
     })
 }
 
-/// Nothing of the place is looked at any more.
+/// Ends the list of errors: the state's environment is left empty, as nothing looks at it any more.
+///
+/// # Errors
+/// `NoMemory` if the allocator refuses memory.
 pub fn end_list(alloc: Global, state: &mut CheckState) -> Result<(), NoMemory>
     ensures { OnOk result (state.new ≡ ended state.old) }
 {
@@ -53,7 +56,10 @@ pub fn end_list(alloc: Global, state: &mut CheckState) -> Result<(), NoMemory>
     Ok(())
 }
 
-/// What a declaration does where it stands, if it does something.
+/// The effect of a declaration as a list: one item, or none if the declaration does nothing at run time.
+///
+/// # Errors
+/// `NoMemory` if the allocator refuses memory.
 pub fn effect_list(
     alloc: Global,
     effect: Option<TypedDeclaration>,
@@ -70,7 +76,10 @@ pub fn effect_list(
     }
 }
 
-/// Behind a declaration that was judged at the place: the place goes on where it is right.
+/// Takes the result of a declaration that was judged: a right one gives its effects, and an error ends the list.
+///
+/// # Errors
+/// `NoMemory` if the allocator refuses memory.
 pub fn settle_effect(
     alloc: Global,
     state: &mut CheckState,

@@ -1,4 +1,4 @@
-// What kind of body is made of what stands there.
+// The kind of each body, as the code generator needs it.
 ghost use Rattle.std.specs.Prelude.{◌≡◌, IfOk};
 ghost use Rattle.al_check_here.specs.BodiesHere.{entry_in, entry_kind, kind_of, operation_in, operation_kind, subprogram_kind};
 
@@ -8,7 +8,7 @@ use al_stmts::{EnclosingBody, ReturnContext};
 use al_view_typed::{BodyKind, EntryOf};
 use std::alloc::Global;
 
-/// Of a subprogram, by what it returns.
+/// The kind of a subprogram's body, from what it returns.
 fn subprogram_kind(returns: ReturnContext, copied: u32, end: usize) -> BodyKind
     ensures { result ≡ subprogram_kind returns.body returns copied end }
 {
@@ -44,7 +44,7 @@ fn copied_if_any(alloc: Global, entry: &Option<EntryOf>) -> Result<Option<EntryO
     }
 }
 
-/// Of a subprogram of a protected object, which may open the object's entry.
+/// The kind of the body of a protected subprogram. A procedure may open the object's entry.
 fn operation_kind(
     alloc: Global,
     object: &OpenObject,
@@ -72,7 +72,7 @@ fn operation_kind(
     }
 }
 
-/// Of an entry with its barrier.
+/// The kind of an entry's body, with its barrier.
 fn entry_kind(alloc: Global, object: &OpenObject) -> Result<BodyKind, NoMemory>
     ensures { IfOk result (λ kind. kind ≡ entry_kind object.now object.now.entry) }
 {
@@ -89,7 +89,7 @@ fn entry_kind(alloc: Global, object: &OpenObject) -> Result<BodyKind, NoMemory>
     }
 }
 
-/// Where no object is open, an operation is a subprogram.
+/// The kind of the body of an operation: that of a protected subprogram, or of a plain subprogram if no protected object is open.
 fn operation_in(
     alloc: Global,
     object: &Option<OpenObject>,
@@ -114,7 +114,7 @@ fn entry_in(alloc: Global, object: &Option<OpenObject>) -> Result<BodyKind, NoMe
     }
 }
 
-/// Of a body, by what it is of, what it returns and how many words it copies back; its `end` stands on that line.
+/// The kind of a body, from its role, what it returns and the number of words it copies back. Its `end` is on line `end`.
 pub(crate) fn kind_of(
     alloc: Global,
     object: &Option<OpenObject>,

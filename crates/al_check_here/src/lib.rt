@@ -1,4 +1,10 @@
-//! How far the check of a unit has come: where it stands in the text, what is round it, and what the unit declares so far.
+//! The state of the check of a unit: which place of the unit it has reached, what encloses that place, and what the unit declares so far.
+//!
+//! - `state` has the state, `CheckState`: the unit's header, the environment at the place, and what encloses it: blocks, bodies and a protected
+//!   object. A `stack` holds these, innermost last.
+//! - `regions`, `bodies` and `parts` enter and leave blocks and loops, bodies, and the parts of a unit with their stubs and use clauses. `kinds`
+//!   gives each body its kind.
+//! - `faulty` ends the list of errors at a wrong declaration. `ends` gives what is left at the end of the unit. `words` has questions about a state.
 #![tactic(auto)]
 
 mod bodies;

@@ -1,4 +1,4 @@
-// Parts of a unit, its stubs and its use clauses.
+// The parts of a unit, its stubs and its use clauses.
 ghost use Rattle.std.specs.Prelude.{◌≡◌, ◌<◌, ℕ, List, Some, fold, length, slice_get, IfOk, OnOk};
 ghost use Rattle.al_view.specs.Interfaces.{with_view};
 ghost use Rattle.al_view.specs.declared.view.ViewKind.{ViewKind};
@@ -13,7 +13,7 @@ use al_view::{Interface, Part, Symbol, View};
 use std::alloc::Global;
 use std::mem;
 
-/// The private part of a package's declaration begins (ARM 7.1): what stands before it is its visible part.
+/// Begins the private part of a package's declaration (ARM 7.1): what was declared before is its visible part.
 pub fn begin_private(alloc: Global, state: &mut CheckState)
     ensures { state.new ≡ private_begun state.old }
 {
@@ -21,14 +21,14 @@ pub fn begin_private(alloc: Global, state: &mut CheckState)
     state.part = Part::Private;
 }
 
-/// The statements of a package's body begin, in the frame of the unit's elaboration (ARM 7.2).
+/// Begins the statements of a package's body, in the frame of the unit's elaboration (ARM 7.2).
 pub fn enter_statements(state: &mut CheckState)
     ensures { state.new ≡ in_statements state.old }
 {
     state.env.progress.depth = 1;
 }
 
-/// One more view of a name.
+/// Adds one view of a name.
 fn add_view(answered: &mut Interface, name: &[u8], view: &View) -> Result<(), NoMemory>
     ensures { OnOk result (answered.new ≡ with_view answered.old name.now view.now) }
 {
@@ -37,7 +37,7 @@ fn add_view(answered: &mut Interface, name: &[u8], view: &View) -> Result<(), No
     Ok(())
 }
 
-/// Views of a name, after others.
+/// Adds views of a name, after those that are there.
 fn add_views(answered: &mut Interface, name: &[u8], views: &[View]) -> Result<(), NoMemory>
     ensures { OnOk result (answered.new ≡ with_views answered.old (name.now, views.now)) }
 {
@@ -47,7 +47,7 @@ fn add_views(answered: &mut Interface, name: &[u8], views: &[View]) -> Result<()
     Ok(())
 }
 
-/// The i-th name of what is declared, with its views, after others.
+/// Adds the views of the `i`-th name of `declared`, after those that are there.
 fn add_name(answered: &mut Interface, declared: &Interface, i: usize) -> Result<(), NoMemory>
     requires { i < length declared.now }
     ensures { OnOk result ((named : List ℕ × List ViewKind) → slice_get declared.now i ≡ Some named → answered.new ≡ with_views answered.old named) }
@@ -58,7 +58,10 @@ fn add_name(answered: &mut Interface, declared: &Interface, i: usize) -> Result<
     }
 }
 
-/// What is declared once more, name by name.
+/// A copy of what is declared, made name by name.
+///
+/// # Errors
+/// `NoMemory` if the allocator refuses memory.
 pub fn copied_interface(alloc: Global, declared: &Interface) -> Result<Interface, NoMemory>
     ensures { IfOk result (λ answered. answered ≡ told_again declared.now) }
 {
@@ -69,7 +72,7 @@ pub fn copied_interface(alloc: Global, declared: &Interface) -> Result<Interface
     Ok(answered)
 }
 
-/// The subprogram that a stub with that head stands for.
+/// The view of the subprogram whose body a stub with this head replaces.
 fn stub_view(
     alloc: Global,
     state: &CheckState,
@@ -83,7 +86,8 @@ fn stub_view(
     subprogram_view(alloc, standard, symbol, depth, None, heading)
 }
 
-/// What stands before a stub, and its own subprogram under the reserved word `separate`, which no text can name: there a subunit finds what it completes.
+/// What is declared before a stub, with the stub's own subprogram under the reserved word `separate`, which is no identifier: there a subunit finds
+/// what it completes.
 fn before_stub(
     alloc: Global,
     state: &CheckState,
@@ -116,7 +120,10 @@ fn stub_here(
     })
 }
 
-/// A stub with that head stands here (ARM 10.1.3).
+/// Adds a body stub with this head (ARM 10.1.3).
+///
+/// # Errors
+/// `NoMemory` if the allocator refuses memory.
 pub fn add_stub(
     alloc: Global,
     state: &mut CheckState,
@@ -159,7 +166,10 @@ fn add_each(alloc: Global, state: &mut CheckState, clauses: &[UseClause]) -> Res
     Ok(())
 }
 
-/// Use clauses stand here; those immediately in a part of the unit are told to its continuations (ARM 8.4(7)).
+/// Adds use clauses, if they are immediately in a part of the unit: the unit's body and its subunits see them too (ARM 8.4(7)).
+///
+/// # Errors
+/// `NoMemory` if the allocator refuses memory.
 pub fn add_uses(
     alloc: Global,
     state: &mut CheckState,

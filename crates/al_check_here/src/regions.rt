@@ -1,4 +1,4 @@
-// Loops and blocks at a place.
+// Loops and blocks: how the check enters and leaves them.
 ghost use Rattle.std.specs.Prelude.{◌≡◌, ◌<◌, ◌∷◌, [], Some, length, IfOk, OnOk};
 ghost use Rattle.al_decl.specs.Declaring.{with_declarations};
 ghost use Rattle.al_decl.specs.Defining.{defined};
@@ -26,7 +26,10 @@ pub fn leave_region(scope: &mut Scope)
     scope.leave();
 }
 
-/// Enters a block: a region that continues nothing, in which nothing waits (ARM 5.6).
+/// Enters a block: a region that continues no other, in which nothing waits for completion (ARM 5.6).
+///
+/// # Errors
+/// `NoMemory` if the allocator refuses memory.
 pub fn enter_block(alloc: Global, state: &mut CheckState) -> Result<(), NoMemory>
     ensures entered { OnOk result (state.new ≡ in_block state.old) }
     ensures inside { OnOk result (0 < length state.new.env.scope.regions) }
@@ -36,7 +39,7 @@ pub fn enter_block(alloc: Global, state: &mut CheckState) -> Result<(), NoMemory
     Ok(())
 }
 
-/// Begins the parameter of a loop.
+/// Begins the declaration of a loop's parameter.
 fn begin_parameter(
     alloc: Global,
     env: &mut Environment,
@@ -49,7 +52,10 @@ fn begin_parameter(
     begin_one(&mut env.scope, &name)
 }
 
-/// Enters a for loop: a region like that of a block, in which its parameter is begun (ARM 5.5, 8.3(16)).
+/// Enters a for loop: a region as that of a block, in which the declaration of its parameter begins (ARM 5.5, 8.3(16)).
+///
+/// # Errors
+/// `NoMemory` if the allocator refuses memory.
 pub fn enter_loop(
     alloc: Global,
     state: &mut CheckState,
@@ -61,7 +67,7 @@ pub fn enter_loop(
     begin_parameter(alloc, &mut state.env, parameter)
 }
 
-/// Outside of the innermost region, where this waited and was declared.
+/// Leaves the innermost region. `outside` is what was declared, and what waited for completion, outside of it.
 pub fn leave_to(env: &mut Environment, outside: Outside)
     ensures { env.new ≡ left_to env.old outside }
 {
@@ -69,7 +75,7 @@ pub fn leave_to(env: &mut Environment, outside: Outside)
     take_back(env, outside);
 }
 
-/// Leaves the innermost loop or block, if one is open: what waited and was declared round it goes on.
+/// Leaves the innermost loop or block, if one is open: what was declared and what waited outside of it is back.
 pub fn leave_block(state: &mut CheckState)
     ensures { state.new ≡ out_of_block state.old }
 {
@@ -79,8 +85,8 @@ pub fn leave_block(state: &mut CheckState)
     }
 }
 
-/// The subtype of a loop's parameter: of the bounds of its range, where these are static; else it has all values of its type, as any selector of which no
-/// more is known (ARM 5.4(7)).
+/// The subtype of a loop's parameter: it has the bounds of its range if these are static. Else it has all values of its type, as a selector of a
+/// case statement of which nothing more is known (ARM 5.4(7)).
 fn parameter_subtype(
     alloc: Global,
     found: &LoopType,
@@ -100,7 +106,7 @@ fn parameter_subtype(
     })
 }
 
-/// A loop's parameter, a constant without a value in that word of the frame.
+/// The declaration of a loop's parameter: a constant without a static value, in this word of the frame.
 fn parameter_declaration(
     alloc: Global,
     env: &Environment,
@@ -120,7 +126,10 @@ fn parameter_declaration(
     Ok(Declaration { name, view })
 }
 
-/// A declaration alone becomes visible.
+/// Makes a single declaration visible.
+///
+/// # Errors
+/// `NoMemory` if the allocator refuses memory.
 pub fn declare_alone(
     alloc: Global,
     env: &mut Environment,
@@ -135,7 +144,7 @@ pub fn declare_alone(
     env.declare(all.as_slice())
 }
 
-/// A loop's parameter is declared.
+/// Declares a loop's parameter with the type of its range.
 fn declare_found(
     alloc: Global,
     env: &mut Environment,
@@ -152,7 +161,10 @@ fn declare_found(
     declare_alone(alloc, env, declaration)
 }
 
-/// The parameter of a loop whose range is right is declared with the type of that range, which was read last (ARM 5.5(9)).
+/// Declares the parameter of a loop whose range is right, with the type of that range, which was read last (ARM 5.5(9)).
+///
+/// # Errors
+/// `NoMemory` if the allocator refuses memory.
 pub fn declare_parameter(
     alloc: Global,
     state: &mut CheckState,

@@ -1,4 +1,4 @@
-// What stands round a place, the innermost last.
+// A stack of what encloses a place, the innermost item last.
 ghost use Rattle.std.specs.Prelude.{◌≡◌, [], ◌∷◌, ◌++◌, is_ok, length, if◌then◌else◌};
 ghost use Rattle.std.specs.Option.{option_copied};
 ghost use Rattle.al_check_here.specs.Stacks.{innermost, without_innermost};
@@ -6,7 +6,7 @@ ghost use Rattle.al_check_here.specs.Stacks.{innermost, without_innermost};
 use std::alloc::{AllocError, Global};
 use std::marker::Model;
 
-/// What stands round a place, outermost first, as its items alone.
+/// A stack of what encloses a place, outermost first. Its model is the list of its items.
 pub struct Stack<T> {
     items: Vec<T>,
 }
@@ -26,7 +26,7 @@ impl<T> Model for Stack<T> {
 }
 
 impl<T: Drop> Stack<T> {
-    /// Nothing. It takes no memory.
+    /// An empty stack. It takes no memory.
     pub fn empty(alloc: Global) -> Self
         ensures { result ≡ [] }
     {
@@ -35,7 +35,10 @@ impl<T: Drop> Stack<T> {
         }
     }
 
-    /// One more item, which is the innermost.
+    /// Pushes an item, which is then the innermost.
+    ///
+    /// # Errors
+    /// `AllocError` if the allocator refuses memory; the stack is then as before.
     pub fn push(&mut self, item: T) -> Result<(), AllocError>
         ensures { self.new ≡ (if is_ok result then self.old ++ item ∷ [] else self.old) }
     {
@@ -43,7 +46,7 @@ impl<T: Drop> Stack<T> {
         Ok(())
     }
 
-    /// Takes the innermost item away, if there is one.
+    /// Pops the innermost item, if there is one.
     pub fn pop(&mut self) -> Option<T>
         ensures left { self.new ≡ without_innermost self.old }
         ensures item { result ≡ innermost self.old }
@@ -51,14 +54,14 @@ impl<T: Drop> Stack<T> {
         self.items.pop()
     }
 
-    /// The innermost item.
+    /// The innermost item, if there is one.
     pub fn innermost(&self) -> Option<&T>
         ensures { option_copied result ≡ innermost self.now }
     {
         self.items.last()
     }
 
-    /// How many items there are.
+    /// The number of items.
     pub fn len(&self) -> usize
         ensures { result ≡ length self.now }
     {

@@ -1,4 +1,4 @@
-// Where the check of a unit stands.
+// The state of the check of a unit.
 ghost use Rattle.std.specs.Prelude.{◌≡◌};
 ghost use Rattle.al_check_here.specs.Ends.{ends_of};
 ghost use Rattle.al_check_here.specs.Standings.{begun_at, first_part};
@@ -17,17 +17,17 @@ use al_view::{Bounds, Interface, Part, Seq, SubtypeView, Symbol, Types, View};
 use al_view_typed::{EntryOf, FormalWords};
 use std::alloc::Global;
 
-/// What stays the same in a unit.
+/// What stays the same during the check of a unit.
 pub struct UnitText {
-    /// What every unit has, and the protected object in whose body the place is.
+    /// The predefined units, and the protected object whose body the place is in.
     pub labeller: Labeller,
     /// The library packages that are mentioned in the unit.
     pub packages: Seq<UnitKey>,
-    /// What the unit's own text says of its place.
+    /// The unit's own header.
     pub own: OwnText,
-    /// The private types of its ancestors: of these its visible part tells the partial views alone (ARM 7.3(5)).
+    /// The private types of the unit's ancestors: its visible part shows only their partial views (ARM 7.3(5)).
     pub hidden: Seq<PrivateName>,
-    /// What its private part was found to declare, where the words of its private types are known by it; nothing before.
+    /// What the unit's private part declares, once it has been walked and the words of its private types are known from it; before that it is empty.
     pub private_part: Interface,
 }
 
@@ -44,7 +44,7 @@ impl Drop for UnitText {
 }
 
 impl UnitText {
-    /// What the unit's own text says. It takes no memory.
+    /// The unit's own header. It takes no memory.
     pub fn into_own(self) -> OwnText
         ensures { result ≡ self.own }
     {
@@ -59,23 +59,26 @@ impl UnitText {
     }
 }
 
-/// What a body is of.
+/// What a body is the body of.
 #[derive(Clone, Copy)]
 pub enum BodyRole {
-    /// ARM 6.3
+    /// A subprogram that isn't protected (ARM 6.3).
     Subprogram,
-    /// ARM 9.1
+    /// A task (ARM 9.1).
     Task,
-    /// A subprogram of a protected object (ARM 9.5.1).
+    /// A protected subprogram (ARM 9.5.1).
     Operation,
     /// An entry of a protected object (ARM 9.5.2).
     Entry,
 }
 
-/// The head of a body that was read: what the body is of, what stands before its `is`, and what its code is known by.
+/// The head of a body that was read: its role, what precedes its `is`, and the symbol of its code.
 pub struct AnalyzedHeading {
+    /// What the body is the body of.
     pub role: BodyRole,
+    /// What precedes its `is`.
     pub heading: Heading,
+    /// The symbol of its code.
     pub symbol: Symbol,
 }
 
@@ -102,14 +105,15 @@ impl AnalyzedHeading {
     }
 }
 
-/// The protected object in whose body the place is (ARM 9.4).
+/// The protected object whose body the place is in (ARM 9.4).
 pub struct OpenObject {
+    /// Its symbol.
     pub symbol: Symbol,
-    /// As other units see it: its operations and its components.
+    /// Its view, as other units see it: its operations and its components.
     pub view: View,
-    /// Its entry, where it has one whose barrier is right.
+    /// Its entry, if it has one whose barrier is right.
     pub entry: Option<EntryOf>,
-    /// What waits and is declared round its body.
+    /// What was declared, and what waited for completion, outside of its body.
     pub outside: Outside,
 }
 
@@ -125,7 +129,7 @@ impl Drop for OpenObject {
 }
 
 impl OpenObject {
-    /// What waited and was declared round its body. It takes no memory.
+    /// What was declared, and what waited for completion, outside of its body. It takes no memory.
     pub fn into_outside(self) -> Outside
         ensures { result ≡ self.outside }
     {
@@ -139,19 +143,23 @@ impl OpenObject {
     }
 }
 
-/// A body round the place.
+/// A body that encloses the place.
 pub struct OpenBody {
+    /// What it is the body of.
     pub role: BodyRole,
+    /// The symbol of its code.
     pub symbol: Symbol,
-    /// Its formals with their words.
+    /// Its formals, with the words of the frame that each has.
     pub formals: Seq<FormalWords>,
-    /// What its return statements stand in, and of a function the subtype of its result.
+    /// The context of its return statements.
     pub returns: ReturnContext,
+    /// The subtype of a function's result, if its mark is right.
     pub result: Option<SubtypeView>,
     /// The first word of the frame after the formals.
     pub after: u32,
-    /// The frame round it, and what waits and is declared there.
+    /// The frame outside of it, by its depth and its next word.
     pub outer: OuterFrame,
+    /// What was declared, and what waited for completion, outside of it.
     pub outside: Outside,
 }
 
@@ -171,7 +179,7 @@ impl Drop for OpenBody {
 }
 
 impl OpenBody {
-    /// What waited and was declared round it. It takes no memory.
+    /// What was declared, and what waited for completion, outside of it. It takes no memory.
     pub(crate) fn into_outside(self) -> Outside
         ensures { result ≡ self.outside }
     {
@@ -189,10 +197,13 @@ impl OpenBody {
     }
 }
 
-/// A use clause that stands immediately in a part of the unit, and how many stubs stand before it.
+/// A use clause that is immediately in a part of the unit.
 pub struct UseHere {
+    /// The part that it is in.
     pub part: Part,
+    /// The clause.
     pub clause: UseClause,
+    /// The number of stubs before it.
     pub stubs: usize,
 }
 
@@ -206,11 +217,13 @@ impl Drop for UseHere {
     }
 }
 
-/// The type of the range of a for loop, with the types among which it is: nothing where every unit has it. All values of the type are the parameter's where
-/// the bounds of the range aren't static.
+/// The type of the range of a for loop.
 pub struct LoopType {
+    /// The type's symbol.
     pub of: Symbol,
+    /// The types among which it is found: none if the type is predefined.
     pub types: Types,
+    /// All values of the type. The parameter has these if the bounds of the range aren't static.
     pub values: Bounds,
 }
 
@@ -224,29 +237,31 @@ impl Drop for LoopType {
     }
 }
 
-/// Where the check of a unit stands.
+/// The state of the check of a unit: its place, and what encloses it.
 pub struct CheckState {
+    /// The unit, and what was known of it before.
     pub unit: UnitText,
-    /// The place, and how far the check has come there.
+    /// The place's environment: what is visible, and what the unit has taken so far.
     pub env: Environment,
-    /// What waits and is declared round each loop and each block that the place is in, outermost first.
+    /// For each loop and block that the place is in, outermost first: what was declared, and what waited for completion, outside of it.
     pub blocks: Stack<Outside>,
     /// The bodies that the place is in, outermost first.
     pub bodies: Stack<OpenBody>,
-    /// The protected object in whose body the place is. They don't stand inside one another.
+    /// The protected object whose body the place is in. Such bodies don't nest.
     pub object: Option<OpenObject>,
     /// The head that was read last, until its body is entered.
     pub pending: Option<AnalyzedHeading>,
-    /// The type of the range of a for loop that was read last.
+    /// The type of the range of the for loop that was read last.
     pub parameter: Option<LoopType>,
-    /// The part of the unit that the place is in, and what its visible part declares, where that lies after.
+    /// The part of the unit that the place is in.
     pub part: Part,
+    /// What the unit's visible part declares, if the place is after it.
     pub visible: Interface,
-    /// The stubs that stand before the place.
+    /// The stubs before the place.
     pub stubs: Seq<StubDeclarations>,
-    /// The use clauses that stand immediately in the unit's parts.
+    /// The use clauses that are immediately in the unit's parts.
     pub uses: Seq<UseHere>,
-    /// Of a library subprogram, or of a body that acts as its declaration, its name with its own view.
+    /// The unit's own name and view, if it is a library subprogram's declaration, or a body that acts as one.
     pub own: Seq<Declaration>,
 }
 
@@ -269,7 +284,7 @@ impl Drop for CheckState {
     }
 }
 
-/// In which part the text of a unit begins.
+/// The part in which a unit begins.
 fn first_part(own: &OwnText) -> Part
     ensures { result ≡ first_part own.now }
 {
@@ -281,7 +296,7 @@ fn first_part(own: &OwnText) -> Part
 }
 
 impl CheckState {
-    /// The start of a unit's text: its place, what was taken before it, and what waits for a body. It takes no memory.
+    /// The state at the start of a unit: its scope, what was taken before it, and what waits for completion. It takes no memory.
     pub fn new(unit: UnitText, scope: Scope, progress: Progress, uncompleted: Uncompleted) -> Self
         ensures { result ≡ begun_at unit scope progress uncompleted }
     {
@@ -310,7 +325,7 @@ impl CheckState {
 }
 
 impl CheckState {
-    /// What is left of it where the text ends there, with the use clauses of its parts.
+    /// What the walk leaves if the unit ends here, with the use clauses of its parts.
     pub(crate) fn ended(self, alloc: Global, uses: Seq<UseInPart>) -> Ends
         ensures { result ≡ record (ends_of self) { uses = uses } }
     {
@@ -344,7 +359,7 @@ impl CheckState {
         }
     }
 
-    /// What is declared immediately where it stands.
+    /// What is declared immediately in the part that the place is in.
     pub(crate) fn into_declared(self) -> Interface
         ensures { result ≡ self.env.declared }
     {

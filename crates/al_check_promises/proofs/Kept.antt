@@ -133,7 +133,7 @@ well_formed tree h =
       regions = all_from (λ p. nat_le (p.word + p.words) tree.words) (λ p. p.word + p.words ≤ tree.words) (λ p e. le_is (p.word + p.words) tree.words e) tree.protected_objects more.1;
     }
 
--- ---- faults
+-- ---- errors
 
 pub own_fault : (unit : UnitKey) → list_all (is_fault_of unit) (not_checked unit) ≡ true
 own_fault unit = ap (λ b. (b && true) && true) ((bytes_eq-Decides (file_name_of (key_of unit)) (file_name_of (key_of unit))).1 refl)

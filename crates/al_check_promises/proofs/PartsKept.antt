@@ -59,7 +59,7 @@ not_both : (b : Bool) → b ≡ true → not b ≡ true → ⊥
 not_both true h k = cc
 not_both false h k = cc
 
--- where the first doesn't hold the second does
+-- if the first doesn't hold, the second does
 unless : (a b : Bool) → a ≡ true → (not a || b) ≡ true → b ≡ true
 unless true b h k = k
 unless false b h k = absurd (cc)

@@ -1,4 +1,4 @@
--- Down the prefixes of a name: what is left passes where the whole does, once the index that is gone by passed.
+-- Down the prefixes of a name: what is left passes if the whole does, once the index that was passed over has passed.
 use Rattle.std.proofs.Common.{◌≡◌, ℕ, Bool, true, Box, Global, sym, ap, ◌∙◌}
 use Rattle.std.specs.List.{list_all}
 use Rattle.al_view.specs.declared.link.LinkSymbol.{LinkSymbol}

@@ -42,7 +42,7 @@ agrees_rest t pre (e ∷ es) all rest =
 pub agrees : (t : Table) (log : Log) → Agrees t log → Agrees (only_recorded log) log
 agrees t log a = agrees_rest t [] log a a
 
--- ---- what it answers stands in the log
+-- ---- what it answers is in the log
 
 recorded_or_not : (log : Log) (q : Query) → (recorded log q ≡ None) ⊎ ((a : AnswerKind) × (recorded log q ≡ Some a))
 recorded_or_not log q = by (recorded log q) refl

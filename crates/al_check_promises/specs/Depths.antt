@@ -1,4 +1,4 @@
--- What stands in an expression is less deep.
+-- What is inside an expression is less deep.
 use Rattle.std.specs.Prelude.{◌<◌}
 use Rattle.al_view_typed.specs.declared.expression.Typed.{Typed, size-Typed}
 

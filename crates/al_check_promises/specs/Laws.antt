@@ -1,4 +1,4 @@
--- What holds of results that were tested.
+-- What is known of results that were tested.
 use Rattle.std.specs.Prelude.{◌≡◌, Bool, List}
 use Rattle.al_base.specs.declared.diagnostic.Diagnostic.{Diagnostic}
 use Rattle.al_base.specs.declared.unit_key.UnitKey.{UnitKey}
@@ -14,7 +14,7 @@ use Rattle.al_query_outcome.specs.declared.interface.UnitInterface.{UnitInterfac
 use Rattle.al_check_promises.specs.SelfChecks.{declares_itself, is_complete, not_checked, self_checked}
 use Rattle.al_check_promises.specs.Shown.{ComeOf, WereShown}
 
--- what the check of a unit promises of what its result uses, defines and shows, of its code and of its faults
+-- what the check of a unit promises of what its result uses, defines and shows, of its code and of its errors
 pub record Promised (unit : UnitKey) (log : Log) (outcome : Outcome) : Type 0 where
   pub uses : UsesOnly unit log outcome
   pub defines : DefinesOwn unit outcome
@@ -28,22 +28,22 @@ WhatIsTestedKeeps =
     (unit : UnitKey) (log : Log) (shown : List ViewKind) (i : UnitInterface) (tree : UnitTree) (complete : Bool)
     → WereShown unit log shown → Promised unit log (self_checked unit shown complete i tree)
 
--- and it completes what it must by the answers of the table of which this was told
+-- a result that was tested completes what it must, by the answers of the table that the test used
 abbrev pub PartsAreCompleted : Type 0
 PartsAreCompleted =
     (unit : UnitKey) (h : Header) (t : Table) (shown : List ViewKind) (i : UnitInterface) (tree : UnitTree)
     → DefinesParts unit h t (self_checked unit shown (is_complete unit h (views_left unit.kind unit.name t) (declares_itself unit t) i tree) i tree)
 
--- and so are faults, each of them in the unit's own file and of a rule of checks
+-- errors are what the check promises if each is in the unit's own file and has a number of the check
 abbrev pub FaultsAreReported : Type 0
 FaultsAreReported = (unit : UnitKey) (log : Log) (faults : List Diagnostic) → FaultsFit unit (Faulty faults) → Promised unit log (Faulty faults)
 
--- as that a unit isn't checked yet
+-- the error that a unit isn't checked yet is what the check promises
 abbrev pub NotYetIsReported : Type 0
 NotYetIsReported = (unit : UnitKey) (log : Log) → Promised unit log (Faulty (not_checked unit))
 
--- views that depend on a table, and under every table come of its answers, were shown where the table is that of a log: it doesn't
--- matter which questions were asked for them
+-- Views that depend on a table, and under every table come from its answers, were shown if the table is that of a log. It doesn't matter which
+-- questions were asked for them.
 abbrev pub OnlyRecorded : Type 0
 OnlyRecorded =
     (unit : UnitKey) (log : Log) (t : Table) (views : Table → List ViewKind) (shown : List ViewKind)

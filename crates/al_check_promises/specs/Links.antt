@@ -1,4 +1,4 @@
--- Sets of what the linker places.
+-- Sets of links.
 use Rattle.std.specs.Prelude.{◌≡◌, Bool, true, false, ◌&&◌, ◌||◌, List}
 use Rattle.std.specs.List.{list_any}
 use Rattle.al_view.specs.Symbols.{same_symbol}
@@ -30,14 +30,14 @@ of_kind set kind.Flag = set.flags
 of_kind set kind.Data = set.words
 of_kind set kind.Protected = set.protected_objects
 
--- whether it is in the set
+-- whether the link is in the set
 unfoldable pub has_link : LinkSet → LinkSymbol → Bool
 has_link set x = list_any (same_symbol x.symbol) (of_kind set x.kind)
 
--- whether it is one of these
+-- whether the link is one of these
 abbrev pub is_among : List LinkSymbol → LinkSymbol → Bool
 is_among links x = list_any (same_link x) links
 
--- the set has these too now, and nothing else that it hadn't
+-- the set has gained these links, and nothing else
 abbrev pub Gains : LinkSet → LinkSet → List LinkSymbol → Type 0
 Gains old new links = (x : LinkSymbol) → has_link new x ≡ (is_among links x || has_link old x)

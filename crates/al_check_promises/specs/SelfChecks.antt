@@ -1,4 +1,4 @@
--- What is tested of the result of a check.
+-- The tests of the result of a check.
 use Rattle.std.specs.Prelude.{◌+◌, Bool, ◌&&◌, ◌||◌, not, List, [], ◌∷◌, ◌++◌, map, nat_le, nat_lt, if◌then◌else◌}
 use Rattle.std.specs.List.{flat_map, list_all, list_any}
 use Rattle.std.specs.Option.{is_none}
@@ -40,29 +40,29 @@ stub_codes i = map (λ s. link Code s.symbol) i.parts.stubs
 abbrev pub defined : UnitInterface → UnitTree → List LinkSymbol
 defined i tree = unit_defines tree ++ stub_codes i
 
--- what is shown of what its body must complete
+-- what the completions show, which its body must complete
 abbrev pub left_shown : UnitInterface → List LinkSymbol
 left_shown i = flat_map view_uses (completed_views i.properties.completions)
 
--- what the unit accounts for: what it leaves to its body too, where that is of a body
+-- what the unit accounts for: also what it leaves to its body, if that is of a body
 abbrev pub accounted : UnitInterface → UnitTree → List LinkSymbol
 accounted i tree = defined i tree ++ left_shown i
 
--- what isn't of a body is one of these
+-- a link that isn't of a body is one of these
 abbrev pub is_declared : List LinkSymbol → LinkSymbol → Bool
 is_declared links x = is_of_body x.kind || is_among links x
 
--- what is the unit's own is one of those, what isn't was shown
+-- a link of the unit's own is one of the first, another one was shown
 abbrev pub is_allowed : UnitKey → List LinkSymbol → List LinkSymbol → LinkSymbol → Bool
 is_allowed unit shown own x = if same_unit x.symbol.unit unit then is_among own x else is_among shown x
 
--- its objects and flags begin within the unit's words, and the components of its protected objects lie within them
+-- its objects and flags begin within the unit's words, and the components of its protected objects are within them
 abbrev pub is_well_formed : UnitTree → Bool
 is_well_formed tree =
     list_all (λ p. nat_le p.word tree.words) tree.objects
     && (list_all (λ p. nat_lt p.word tree.words) tree.flags && list_all (λ p. nat_le (p.word + p.words) tree.words) tree.protected_objects)
 
--- whether the result is what the check of a unit promises, where it was shown these views
+-- whether the result is what the check of a unit promises, if it was shown these views
 unfoldable pub is_kept : UnitKey → List ViewKind → UnitInterface → UnitTree → Bool
 is_kept unit shown i tree =
     list_all (is_allowed unit (flat_map view_uses shown) (accounted i tree)) (unit_uses tree ++ interface_uses i)
@@ -70,11 +70,11 @@ is_kept unit shown i tree =
 
 -- ---- what a unit completes, and what it leaves to others
 
--- what a body may count as completed has its stubs in it
+-- for a body, what its stubs stand for counts as completed too
 abbrev pub completing : UnitKey → UnitInterface → UnitTree → List LinkSymbol
 completing unit i tree = if same_kind unit.kind Body then defined i tree else unit_defines tree
 
--- where it is of a body, it is one of these
+-- a link that is of a body is one of these
 abbrev pub is_completed : List LinkSymbol → LinkSymbol → Bool
 is_completed links x = not (is_of_body x.kind) || is_among links x
 
@@ -82,7 +82,7 @@ is_completed links x = not (is_of_body x.kind) || is_among links x
 abbrev pub leaves_rightly : UnitKey → Header → UnitInterface → Bool
 leaves_rightly unit h i = (same_kind unit.kind Decl && h.needs_body) || list_all (λ x. not (is_of_body x.kind)) (left_shown i)
 
--- the name of the stub is one of the text's, and what stands before it has what it stands for
+-- the name of the stub is one of the header's, and its subprogram is shown to its subunit
 abbrev pub is_told_stub : UnitKey → Header → UnitInterface → StubDeclarations → Bool
 is_told_stub unit h i s =
     not (same_kind unit.kind Decl)
@@ -93,7 +93,8 @@ is_told_stub unit h i s =
 abbrev pub has_main : UnitKey → Header → Bool → UnitInterface → UnitTree → Bool
 has_main unit h declares i tree = not (h.is_parameterless_procedure && declares) || is_among (accounted i tree) (own_code unit)
 
--- whether the unit with this header completes these views, and leaves to others what it may; its text is that of its declaration or not
+-- whether the unit with this header completes these views, and leaves to others only what it may; `declares` says whether the unit is a declaration,
+-- or a body that acts as one
 unfoldable pub is_complete : UnitKey → Header → List ViewKind → Bool → UnitInterface → UnitTree → Bool
 is_complete unit h views declares i tree =
     leaves_rightly unit h i
@@ -109,6 +110,6 @@ declares_itself unit t = same_kind unit.kind Decl || (same_kind unit.kind Body &
 abbrev pub not_checked : UnitKey → List Diagnostic
 not_checked unit = record { file = file_name_of (key_of unit); place = record { line = 1; col = 1 }; code = 700 } ∷ []
 
--- the result, where it is what the check promises
+-- the result, if it is what the check promises; else E700
 unfoldable pub self_checked : UnitKey → List ViewKind → Bool → UnitInterface → UnitTree → Outcome
 self_checked unit shown complete i tree = if is_kept unit shown i tree && complete then Sound i tree else Faulty (not_checked unit)

@@ -1,4 +1,4 @@
--- A table that knows only what was recorded: so whatever comes of tables comes of the recorded answers.
+-- A table that knows only what was recorded: what comes of every table comes of the recorded answers.
 use Rattle.std.specs.Prelude.{◌≡◌, ◌⊎◌, List, unwrap_or}
 use Rattle.std.specs.List.{Contains, flat_map}
 use Rattle.al_base.specs.declared.unit_key.UnitKey.{UnitKey}
@@ -14,10 +14,10 @@ use Rattle.al_query_outcome.specs.Tables.{no_answer}
 abbrev pub only_recorded : Log → Table
 only_recorded log q = unwrap_or (recorded log q) (no_answer q)
 
--- these views are the unit's own, or stand in answers of the table: they show nothing else
+-- these views are the unit's own, or in answers of the table: they show nothing else
 abbrev pub ComeOf : UnitKey → Table → List ViewKind → Type 0
 ComeOf unit t views = (x : LinkSymbol) → Contains (flat_map view_uses views) x → (x.symbol.unit ≡ unit) ⊎ ((q : Query) × Contains (answer_uses (t q)) x)
 
--- these views are the unit's own, or stand in the recorded answers
+-- these views are the unit's own, or in the recorded answers
 abbrev pub WereShown : UnitKey → Log → List ViewKind → Type 0
 WereShown unit log views = (x : LinkSymbol) → Contains (flat_map view_uses views) x → (x.symbol.unit ≡ unit) ⊎ Contains (log_uses log) x

@@ -6,10 +6,10 @@ use Rattle.al_check_promises.specs.Links.{has_link}
 use Rattle.al_check_promises.specs.declared.completed.Completing.{Completing}
 use Rattle.al_check_promises.specs.declared.tested.Declared.{Declared}
 
--- where it is of a body, it is completed
+-- a link that is of a body is completed
 unfoldable pub completes : Completing → LinkSymbol → Bool
 completes c x = not (is_of_body x.kind) || has_link c.links x
 
--- where it isn't of a body, it is there
+-- a link that isn't of a body is in the set
 unfoldable pub declares : Declared → LinkSymbol → Bool
 declares d x = is_of_body x.kind || has_link d.links x

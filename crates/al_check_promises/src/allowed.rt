@@ -1,4 +1,4 @@
-// What a unit may use.
+// The links that a unit may use.
 ghost use Rattle.std.specs.Prelude.{◌≡◌, ◌++◌, map, IfOk, OnOk};
 ghost use Rattle.std.specs.List.{flat_map};
 ghost use Rattle.al_view.specs.ViewUses.{link, view_uses};
@@ -21,7 +21,7 @@ use al_view::{LinkKind, View, copied_unit};
 use al_view_typed::TypedUnit;
 use std::alloc::Global;
 
-/// Whether a body defines it; flags, words and protected objects are its declaration's.
+/// Whether a link of this kind is defined by a body. Flags, words and protected objects are defined by the declaration.
 pub(crate) fn is_of_body(kind: LinkKind) -> bool
     ensures { result ≡ is_of_body kind }
 {
@@ -35,7 +35,7 @@ pub(crate) fn is_of_body(kind: LinkKind) -> bool
     }
 }
 
-/// What views show.
+/// Adds the links that these views show.
 fn add_all_shown(set: &mut LinkSet, views: &[View]) -> Result<(), NoMemory>
     ensures { OnOk result (Gains set.old set.new (flat_map view_uses views.now)) }
 {
@@ -45,7 +45,7 @@ fn add_all_shown(set: &mut LinkSet, views: &[View]) -> Result<(), NoMemory>
     Ok(())
 }
 
-/// What completions show.
+/// Adds the links that these completions show.
 fn add_completions(set: &mut LinkSet, completions: &[Completion]) -> Result<(), NoMemory>
     ensures { OnOk result (Gains set.old set.new (flat_map (λ c. view_uses c.view) completions.now)) }
 {
@@ -55,7 +55,7 @@ fn add_completions(set: &mut LinkSet, completions: &[Completion]) -> Result<(), 
     Ok(())
 }
 
-/// The code that stubs stand for.
+/// Adds the code that these stubs stand for.
 fn add_stubs(set: &mut LinkSet, stubs: &[StubDeclarations]) -> Result<(), NoMemory>
     ensures { OnOk result (Gains set.old set.new (map (λ s. link Code s.symbol) stubs.now)) }
 {
@@ -65,7 +65,7 @@ fn add_stubs(set: &mut LinkSet, stubs: &[StubDeclarations]) -> Result<(), NoMemo
     Ok(())
 }
 
-/// What a unit defines, and the code of its stubs.
+/// Adds the links that a unit defines, and the code of its stubs.
 #[tactic(auto, using(crate::proofs::Gained::gains_both))]
 pub(crate) fn add_defined(
     set: &mut LinkSet,
@@ -78,7 +78,7 @@ pub(crate) fn add_defined(
     add_stubs(set, parts.stubs.as_slice())
 }
 
-/// What a unit accounts for.
+/// Adds the links that a unit accounts for: it defines them, leaves them to its body, or has a stub for them.
 #[tactic(auto, using(crate::proofs::Gained::gains_both))]
 fn add_accounted(set: &mut LinkSet, sound: &SoundUnit) -> Result<(), NoMemory>
     ensures { OnOk result (Gains set.old set.new (accounted (interface_of sound.now.properties sound.now.parts) (unit_model sound.now.tree))) }
@@ -87,7 +87,7 @@ fn add_accounted(set: &mut LinkSet, sound: &SoundUnit) -> Result<(), NoMemory>
     add_completions(set, sound.properties.completions.as_slice())
 }
 
-/// What a unit defines, and the code of its stubs.
+/// The links that a unit defines, and the code of its stubs.
 pub(crate) fn defined_of(alloc: Global, sound: &SoundUnit) -> Result<LinkSet, NoMemory>
     ensures { IfOk result (λ own. (x : LinkSymbol) → has_link own x ≡ is_among (defined (interface_of sound.now.properties sound.now.parts) (unit_model sound.now.tree)) x) }
 {
@@ -96,7 +96,7 @@ pub(crate) fn defined_of(alloc: Global, sound: &SoundUnit) -> Result<LinkSet, No
     Ok(own)
 }
 
-/// What a unit accounts for.
+/// The links that a unit accounts for: it defines them, leaves them to its body, or has a stub for them.
 pub(crate) fn own_of(alloc: Global, sound: &SoundUnit) -> Result<LinkSet, NoMemory>
     ensures { IfOk result (λ own. (x : LinkSymbol) → has_link own x ≡ is_among (accounted (interface_of sound.now.properties sound.now.parts) (unit_model sound.now.tree)) x) }
 {
@@ -105,7 +105,7 @@ pub(crate) fn own_of(alloc: Global, sound: &SoundUnit) -> Result<LinkSet, NoMemo
     Ok(own)
 }
 
-/// What views show.
+/// The links that these views show.
 pub(crate) fn shown_of(alloc: Global, views: &[View]) -> Result<LinkSet, NoMemory>
     ensures { IfOk result (λ shown. (x : LinkSymbol) → has_link shown x ≡ is_among (flat_map view_uses views.now) x) }
 {
@@ -114,7 +114,7 @@ pub(crate) fn shown_of(alloc: Global, views: &[View]) -> Result<LinkSet, NoMemor
     Ok(shown)
 }
 
-/// What a unit may use that was shown these views.
+/// The links that a unit may use if it was shown these views.
 pub(crate) fn allowed_of(
     alloc: Global,
     unit: &UnitKey,

@@ -1,4 +1,4 @@
-// Results that their own check has tested.
+// Results of a check, given only after they were tested.
 ghost use Rattle.std.specs.Prelude.{◌≡◌, ◌&&◌, IfOk, if◌then◌else◌};
 ghost use Rattle.al_view_typed.specs.UnitTrees.{unit_model};
 ghost use Rattle.al_query_outcome.specs.Results.{checked_model, Faulty as Wrong, Sound};
@@ -13,15 +13,18 @@ use al_view::View;
 use al_view_typed::TypedUnit;
 use std::alloc::Global;
 
-/// A unit in which no fault was found: what it says of itself, what its parts declare, and its labelled tree.
+/// A unit without errors: what it says of itself, what its parts declare, and its labelled tree.
 #[derive(Drop)]
 pub struct SoundUnit {
+    /// What it says of itself.
     pub properties: Properties,
+    /// What its parts declare, and its stubs.
     pub parts: Parts,
+    /// Its labelled tree.
     pub tree: TypedUnit,
 }
 
-/// The result of a check in which no fault was found.
+/// The result of the check of a unit without errors.
 fn made(alloc: Global, sound: SoundUnit) -> Result<Checked, NoMemory>
     ensures { IfOk result (λ checked. checked_model checked ≡ Sound (interface_of sound.properties sound.parts) (unit_model sound.tree)) }
 {
@@ -39,7 +42,7 @@ fn made(alloc: Global, sound: SoundUnit) -> Result<Checked, NoMemory>
     }
 }
 
-/// The result of a check in which no fault was found, where it is kept; else E700.
+/// The result of the check of a unit without errors if it keeps the promises; else E700.
 fn answered(
     alloc: Global,
     unit: &UnitKey,
@@ -62,9 +65,12 @@ fn both_hold(kept: bool, complete: bool) -> bool
     kept && complete
 }
 
-/// The result of a check in which no fault was found, where it is what the check promises: it uses and shows nothing of other units but
-/// what these views show; what it uses and shows of its own is defined, left to its body, or the code of a stub; there is code for it; and
-/// it completes what it must, as was tested before. Else E700, as something is compiled that can't be yet.
+/// The result of the check of a unit without errors, if it is what the check promises. It uses and shows links of other units only if `shown` shows
+/// them. Each of its own that it uses or shows is defined, left to its body, or the code of a stub. There is code for it. It completes what it must
+/// (`complete`, tested before). Else the result is E700: the unit can't be compiled yet.
+///
+/// # Errors
+/// `NoMemory` if the allocator refuses memory.
 pub fn self_checked(
     alloc: Global,
     unit: &UnitKey,

@@ -34,7 +34,7 @@ fn end_within(objects: &[ProtectedWords], words: u32) -> bool
     objects.iter().all(|object| ends_within(object, words))
 }
 
-/// Whether the objects, flags and protected objects of a labelled unit lie within its words.
+/// Whether the objects, flags and protected objects of a labelled unit are within its words.
 #[tactic(auto, unfolding(al_view_typed::specs::UnitTrees::unit_model))]
 fn is_well_formed(tree: &TypedUnit) -> bool
     ensures { result ≡ is_well_formed (unit_model tree.now) }
@@ -44,7 +44,7 @@ fn is_well_formed(tree: &TypedUnit) -> bool
         && end_within(tree.protected_objects.as_slice(), tree.words)
 }
 
-/// Whether a labelled unit is that of the unit, and there is code for it.
+/// Whether a labelled unit is this unit, and there is code for it.
 #[tactic(auto, unfolding(al_view_typed::specs::UnitTrees::unit_model))]
 pub(crate) fn has_code(unit: &UnitKey, tree: &TypedUnit) -> bool
     ensures { result ≡ (same_unit (unit_model tree.now).unit unit.now && is_well_formed (unit_model tree.now)) }

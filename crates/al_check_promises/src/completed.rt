@@ -1,4 +1,4 @@
-// Whether a unit completes what it must, and leaves to others what it may.
+// Whether a unit completes all that it must, and leaves to others only what it may.
 ghost use Rattle.std.specs.Prelude.{◌≡◌, ◌&&◌, ◌||◌, not, IfOk, OnOk};
 ghost use Rattle.std.specs.List.{flat_map, list_all};
 ghost use Rattle.al_base.specs.declared.unit_key.UnitKind.TheVariants.{Decl};
@@ -25,7 +25,7 @@ use al_unit_graph::Header;
 use al_view::{LinkKind, Symbol, View, copied_unit};
 use std::alloc::Global;
 
-/// What may count as completed.
+/// The links that count as completed.
 struct Completing {
     links: LinkSet,
 }
@@ -47,7 +47,7 @@ impl LinkTest for Completing {
     }
 }
 
-/// What a unit defines, a body with the code of its stubs.
+/// Adds the links that a unit defines, and for a body the code of its stubs.
 fn add_completing(set: &mut LinkSet, unit: &UnitKey, sound: &SoundUnit) -> Result<(), NoMemory>
     ensures { OnOk result (Gains set.old set.new (completing unit.now (interface_of sound.now.properties sound.now.parts) (unit_model sound.now.tree))) }
 {
@@ -58,7 +58,7 @@ fn add_completing(set: &mut LinkSet, unit: &UnitKey, sound: &SoundUnit) -> Resul
     }
 }
 
-/// What a unit completes.
+/// The links that a unit completes.
 fn completing_of(alloc: Global, unit: &UnitKey, sound: &SoundUnit) -> Result<Completing, NoMemory>
     ensures { IfOk result (λ c. (x : LinkSymbol) → completes c x ≡ is_completed (completing unit.now (interface_of sound.now.properties sound.now.parts) (unit_model sound.now.tree)) x) }
 {
@@ -67,7 +67,7 @@ fn completing_of(alloc: Global, unit: &UnitKey, sound: &SoundUnit) -> Result<Com
     Ok(Completing { links })
 }
 
-/// Whether a unit completes what these views show of bodies.
+/// Whether a unit completes all links of bodies that these views show.
 fn are_completed(
     alloc: Global,
     unit: &UnitKey,
@@ -80,7 +80,7 @@ fn are_completed(
     Ok(views_pass(views, &completing))
 }
 
-/// Whether completions show nothing that a body defines.
+/// Whether completions show no link that a body defines.
 fn leave_nothing(alloc: Global, completions: &[Completion]) -> bool
     ensures { result ≡ list_all (λ x. not (is_of_body x.kind)) (flat_map (λ c. view_uses c.view) completions.now) }
 {
@@ -97,7 +97,7 @@ fn may_leave(unit: &UnitKey, header: &Header) -> bool
     matches!(unit.kind, UnitKind::Decl) && header.needs_body
 }
 
-/// Whether only a declaration that needs a body leaves something to it.
+/// Whether a unit leaves nothing to a body, unless it is a declaration that needs one.
 fn leaves_rightly(alloc: Global, unit: &UnitKey, header: &Header, sound: &SoundUnit) -> bool
     ensures { result ≡ leaves_rightly unit.now (header_model header.now) (interface_of sound.now.properties sound.now.parts) }
 {
@@ -107,7 +107,7 @@ fn leaves_rightly(alloc: Global, unit: &UnitKey, header: &Header, sound: &SoundU
     leave_nothing(alloc, sound.properties.completions.as_slice())
 }
 
-/// The symbol of a library unit whose own text declares it.
+/// The symbol of a library unit that its own declaration declares.
 fn own_symbol(alloc: Global, unit: &UnitKey) -> Result<Symbol, NoMemory>
     ensures { IfOk result (λ symbol. symbol ≡ (own_code unit.now).symbol) }
 {
@@ -145,8 +145,11 @@ fn has_main(
     Ok(true)
 }
 
-/// Whether a unit with this header completes what these views show of bodies, and leaves to its body and its subunits what it may. Its
-/// text is that of its declaration or not.
+/// Whether a unit with this header completes all that these views show of bodies, and leaves to its body and its subunits only what it may.
+/// `declares` says whether the unit is a declaration, or a body that acts as one.
+///
+/// # Errors
+/// `NoMemory` if the allocator refuses memory.
 #[tactic(auto, unfolding(crate::specs::SelfChecks::is_complete))]
 pub fn is_complete(
     alloc: Global,

@@ -1,4 +1,4 @@
-// What the linker must find for declarations.
+// The links that declarations use.
 ghost use Rattle.std.specs.Prelude.{◌≡◌, map};
 ghost use Rattle.std.specs.List.{flat_map, list_all};
 ghost use Rattle.al_view.specs.ViewUses.{place_uses};
@@ -55,7 +55,7 @@ fn form_passes<T: LinkTest>(form: &DeclarationForm, test: &T) -> bool
     }
 }
 
-/// Whether all that the linker must find for declarations passes.
+/// Whether all links that these declarations use pass the test.
 pub(crate) fn declarations_pass<T: LinkTest>(declarations: &[TypedDeclaration], test: &T) -> bool
     ensures { result ≡ list_all (T.passing test.now) (declarations_uses (map declaration_model declarations.now)) }
 {

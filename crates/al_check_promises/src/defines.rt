@@ -1,4 +1,4 @@
-// What the linker finds in labelled units.
+// The links that labelled units define.
 ghost use Rattle.std.specs.Prelude.{◌≡◌, map, OnOk};
 ghost use Rattle.std.specs.List.{flat_map, list_all};
 ghost use Rattle.al_view.specs.ViewUses.{link};
@@ -13,7 +13,7 @@ use al_base::NoMemory;
 use al_view::LinkKind;
 use al_view_typed::{BodyKind, DataPlace, ProtectedWords, TypedBody, TypedUnit};
 
-/// Whether what a body defines passes: the code of an entry is a gate and the body after it.
+/// Whether the links that a body defines pass the test: for an entry its gate and the body after it, else its code.
 #[tactic(auto, unfolding(al_view_typed::specs::UnitTrees::body_model))]
 fn body_passes<T: LinkTest>(body: &TypedBody, test: &T) -> bool
     ensures { result ≡ list_all (T.passing test.now) (body_defines (body_model body.now).symbol (body_model body.now).kind) }
@@ -70,7 +70,7 @@ fn objects_pass<T: LinkTest>(objects: &[ProtectedWords], test: &T) -> bool
     true
 }
 
-/// Whether all passes that a labelled unit defines.
+/// Whether all links that a labelled unit defines pass the test.
 #[tactic(auto, unfolding(al_view_typed::specs::UnitTrees::unit_model, al_view_typed::specs::Uses::unit_defines))]
 pub fn defines_pass<T: LinkTest>(unit: &TypedUnit, test: &T) -> bool
     ensures { result ≡ list_all (T.passing test.now) (unit_defines (unit_model unit.now)) }
@@ -81,7 +81,7 @@ pub fn defines_pass<T: LinkTest>(unit: &TypedUnit, test: &T) -> bool
         && objects_pass(unit.protected_objects.as_slice(), test)
 }
 
-/// What a body defines.
+/// Adds the links that a body defines.
 #[tactic(auto, unfolding(al_view_typed::specs::UnitTrees::body_model))]
 fn add_body(set: &mut LinkSet, body: &TypedBody) -> Result<(), NoMemory>
     ensures { OnOk result (Gains set.old set.new (body_defines (body_model body.now).symbol (body_model body.now).kind)) }
@@ -132,7 +132,10 @@ fn add_objects(set: &mut LinkSet, objects: &[ProtectedWords]) -> Result<(), NoMe
     Ok(())
 }
 
-/// All that a labelled unit defines.
+/// Adds all links that a labelled unit defines.
+///
+/// # Errors
+/// `NoMemory` if the allocator refuses memory.
 pub fn add_defines(set: &mut LinkSet, unit: &TypedUnit) -> Result<(), NoMemory>
     ensures { OnOk result (Gains set.old set.new (unit_defines (unit_model unit.now))) }
 {

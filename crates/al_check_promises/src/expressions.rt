@@ -1,4 +1,4 @@
-// What the linker must find for expressions.
+// The links that expressions use.
 ghost use Rattle.std.specs.Prelude.{◌≡◌, ◌++◌, IfSome, map, option_map};
 ghost use Rattle.std.specs.List.{list_all};
 ghost use Rattle.al_view_typed.specs.ExpressionViews.{actual_model, actuals_of, call_model, form_model, name_model, typed_model, value_model, values_of};
@@ -10,14 +10,14 @@ use crate::views::{flag_passes, place_passes};
 use al_view::LinkKind;
 use al_view_typed::{Actual, Callee, CheckedValue, Form, Typed, TypedCall, TypedName};
 
-/// An operator that has two operands.
+/// The operands of an operator that has two.
 #[derive(Drop)]
 struct Operands<'a> {
     left: &'a Typed,
     right: &'a Typed,
 }
 
-/// The operands of an operator that has two.
+/// The operands of an operator, if it has two.
 #[tactic(auto, using(crate::proofs::Layers::typed_layers, al_view_typed::proofs::ExpressionsMade::binary_made, al_view_typed::proofs::ExpressionsMade::short_circuit_made))]
 fn operands_of(typed: &Typed) -> Option<Operands<'_>>
     ensures uses { IfSome result (λ o. typed_uses (typed_model typed.now) ≡ typed_uses (typed_model o.left.now) ++ typed_uses (typed_model o.right.now)) }
@@ -30,8 +30,8 @@ fn operands_of(typed: &Typed) -> Option<Operands<'_>>
     }
 }
 
-/// Whether all that the linker must find for an expression passes. Left operands are gone down by a loop, so that a chain of operators takes
-/// nothing of the stack for each.
+/// Whether all links that an expression uses pass the test. A loop goes down the left operands, so a chain of operators takes no stack for each of
+/// them.
 #[cycle(uses)]
 #[tactic(auto, using(crate::proofs::Layers::typed_layers, crate::proofs::Listed::second_fails, crate::proofs::Listed::first_decides))]
 pub(crate) fn typed_passes<T: LinkTest>(typed: &Typed, test: &T) -> bool
@@ -151,7 +151,7 @@ fn actuals_pass<T: LinkTest>(actuals: &[Actual], test: &T) -> bool
     true
 }
 
-/// Whether the code or the gate of what is called passes.
+/// Whether the code or the gate of a called subprogram or entry passes the test.
 fn callee_passes<T: LinkTest>(callee: &Callee, test: &T) -> bool
     ensures { result ≡ list_all (T.passing test.now) (callee_uses callee.now) }
 {
@@ -172,7 +172,7 @@ pub(crate) fn call_passes<T: LinkTest>(call: &TypedCall, test: &T) -> bool
         && actuals_pass(call.actuals.as_slice(), test)
 }
 
-/// Whether all passes for an expression, where there is one.
+/// Whether the links of an expression pass the test, if there is an expression.
 pub(crate) fn some_typed_passes<T: LinkTest>(typed: &Option<Typed>, test: &T) -> bool
     ensures { result ≡ list_all (T.passing test.now) (some_uses typed_uses (option_map typed_model typed.now)) }
 {
@@ -182,7 +182,7 @@ pub(crate) fn some_typed_passes<T: LinkTest>(typed: &Option<Typed>, test: &T) ->
     }
 }
 
-/// The same of a value.
+/// Whether the links of a value pass the test, if there is a value.
 pub(crate) fn some_value_passes<T: LinkTest>(value: &Option<CheckedValue>, test: &T) -> bool
     ensures { result ≡ list_all (T.passing test.now) (some_uses value_uses (option_map value_model value.now)) }
 {

@@ -1,4 +1,4 @@
-// What can't be compiled yet.
+// E700: the unit can't be compiled yet.
 ghost use Rattle.std.specs.Prelude.{◌≡◌, IfOk};
 ghost use Rattle.al_query_outcome.specs.Results.{checked_model, Faulty as Wrong};
 ghost use Rattle.al_check_promises.specs.SelfChecks.{not_checked};
@@ -8,7 +8,10 @@ use al_query_outcome::Checked;
 use al_view::Seq;
 use std::alloc::Global;
 
-/// E700 at the first place of the unit's file.
+/// The diagnostic E700 at the first place of the unit's file.
+///
+/// # Errors
+/// `NoMemory` if the allocator refuses memory.
 pub fn not_yet(alloc: Global, unit: &UnitKey) -> Result<Seq<Diagnostic>, NoMemory>
     ensures { IfOk result (λ faults. faults ≡ not_checked unit.now) }
 {
@@ -23,7 +26,10 @@ pub fn not_yet(alloc: Global, unit: &UnitKey) -> Result<Seq<Diagnostic>, NoMemor
     Ok(faults)
 }
 
-/// E700 as the result of a check: the unit isn't checked yet.
+/// E700 as the result of a check.
+///
+/// # Errors
+/// `NoMemory` if the allocator refuses memory.
 pub fn not_checked(alloc: Global, unit: &UnitKey) -> Result<Checked, NoMemory>
     ensures { IfOk result (λ checked. checked_model checked ≡ Wrong (not_checked unit.now)) }
 {

@@ -1,4 +1,4 @@
-// What a unit shows to others.
+// The links that a unit shows to others.
 ghost use Rattle.std.specs.Prelude.{◌≡◌, ◌<◌, ◌++◌, ◌∷◌, [], ℕ, get_or, length, List};
 ghost use Rattle.std.specs.List.{flat_map, list_all};
 ghost use Rattle.al_view.specs.ViewUses.{view_uses};
@@ -11,7 +11,7 @@ use al_query::Completion;
 use al_query_outcome::{Parts, Properties, StubDeclarations};
 use al_view::{Interface, View};
 
-/// The views of the i-th name, from 0.
+/// The views of the `i`-th name, from 0.
 pub(crate) fn views_at(interface: &Interface, i: usize) -> &[View]
     requires { i < length interface.now }
     ensures { (e : List ℕ × List ViewKind) → result.now ≡ (get_or interface.now i e).1 }
@@ -55,7 +55,7 @@ fn stubs_pass<T: LinkTest>(stubs: &[StubDeclarations], test: &T) -> bool
     true
 }
 
-/// Whether all passes that the parts of a unit show.
+/// Whether all links that the parts of a unit show pass the test.
 pub(crate) fn parts_pass<T: LinkTest>(parts: &Parts, test: &T) -> bool
     ensures { result ≡ list_all (T.passing test.now) (part_uses parts.now) }
 {
@@ -76,7 +76,7 @@ pub(crate) fn completions_pass<T: LinkTest>(completions: &[Completion], test: &T
     true
 }
 
-/// Whether all passes that the properties of a unit show.
+/// Whether all links that the properties of a unit show pass the test.
 pub(crate) fn properties_pass<T: LinkTest>(properties: &Properties, test: &T) -> bool
     ensures { result ≡ list_all (T.passing test.now) (property_uses properties.now) }
 {

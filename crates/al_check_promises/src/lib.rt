@@ -1,4 +1,13 @@
-//! What the check of a unit promises of its result, tested at its end, and what of other units a labelled unit uses.
+//! What the check of a unit promises of its result, tested at the end of the check.
+//!
+//! - A *link* is what the linker places: code, a gate, an entry's body, a flag, words or a protected object, by the symbol of its declaration
+//!   (`link_set`, `symbol_set`).
+//! - A unit *defines* links (`defines`), *uses* them (`units`, `statements`, `expressions`, `declarations`) and *shows* them to others (`views`,
+//!   `shown`, `interfaces`).
+//! - It may use its own links, and those that others showed it (`rule`, `allowed`). It *accounts for* a link that it defines, leaves to its body, or
+//!   has a stub for (`completed`, `stubs`).
+//! - A unit without errors is a `SoundUnit`. `tested` tests it, and `checked` gives the result: the unit if it is what is promised, else E700
+//!   (`faults`).
 #![tactic(auto)]
 
 mod allowed;

@@ -1,4 +1,4 @@
-// Sets of what the linker places.
+// Sets of links.
 ghost use Rattle.std.specs.Prelude.{◌≡◌, [], ◌∷◌, false, OnOk};
 ghost use Rattle.al_view.specs.ViewUses.{link};
 ghost use Rattle.al_view.specs.declared.link.LinkSymbol.{LinkSymbol};
@@ -9,7 +9,7 @@ use al_base::NoMemory;
 use al_view::{LinkKind, Symbol};
 use std::alloc::Global;
 
-/// What the linker places, each once. It is found without a walk.
+/// A set of links: each is in it once, and is found by hashing.
 pub struct LinkSet {
     code: SymbolSet,
     gates: SymbolSet,
@@ -33,7 +33,7 @@ impl Drop for LinkSet {
 }
 
 impl LinkSet {
-    /// Nothing. It takes no memory.
+    /// The empty set. It takes no memory.
     pub fn new(alloc: Global) -> LinkSet
         ensures { (x : LinkSymbol) → has_link result x ≡ false }
     {
@@ -47,7 +47,7 @@ impl LinkSet {
         }
     }
 
-    /// The symbols of this kind.
+    /// The symbols of the links of this kind.
     fn of(&self, kind: LinkKind) -> &SymbolSet
         ensures { result.now ≡ of_kind self.now kind }
     {
@@ -61,14 +61,17 @@ impl LinkSet {
         }
     }
 
-    /// Whether this of the declaration with this symbol is there.
+    /// Whether the link of this kind of the declaration with this symbol is in the set.
     pub fn contains(&self, kind: LinkKind, symbol: &Symbol) -> bool
         ensures { result ≡ has_link self.now (link kind symbol.now) }
     {
         self.of(kind).contains(symbol)
     }
 
-    /// This of the declaration with this symbol, unless it is there.
+    /// Adds the link of this kind of the declaration with this symbol, unless it is in the set.
+    ///
+    /// # Errors
+    /// `NoMemory` if the allocator refuses memory.
     pub fn insert(&mut self, kind: LinkKind, symbol: &Symbol) -> Result<(), NoMemory>
         ensures { OnOk result (Gains self.old self.new (link kind symbol.now ∷ [])) }
     {

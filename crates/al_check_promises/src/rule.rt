@@ -1,13 +1,16 @@
-// Which links a unit may use.
+// The links that a unit may use.
 use crate::link_set::LinkSet;
 use crate::test::LinkTest;
 use al_base::UnitKey;
 use al_view::{LinkKind, Symbol, is_unit};
 
-/// Which links a unit may use: these of its own, and those of others.
+/// The links that a unit may use: some of its own, and some of other units.
 pub struct LinkRule {
+    /// The unit that uses them.
     pub unit: UnitKey,
+    /// The links of this unit that it may use.
     pub own: LinkSet,
+    /// The links of other units that it may use.
     pub others: LinkSet,
 }
 

@@ -1,4 +1,4 @@
-// Sets of what the linker must find for who names views.
+// The links that views show, as sets.
 ghost use Rattle.std.specs.Prelude.{◌≡◌, [], ◌∷◌, OnOk};
 ghost use Rattle.std.specs.List.{flat_map};
 ghost use Rattle.al_view.specs.ViewUses.{callee_uses, flag_uses, link, place_uses, subprogram_uses, view_uses};
@@ -31,7 +31,7 @@ fn add_flag(set: &mut LinkSet, flag: &Option<ObjectPlace>) -> Result<(), NoMemor
     }
 }
 
-/// Both parts of an entry.
+/// Adds both links of an entry: its gate and its body.
 #[tactic(auto, using(crate::proofs::Gained::gains_both))]
 pub(crate) fn add_entry(set: &mut LinkSet, symbol: &Symbol) -> Result<(), NoMemory>
     ensures { OnOk result (Gains set.old set.new (callee_uses Entry symbol.now)) }
@@ -69,7 +69,7 @@ fn add_operations(set: &mut LinkSet, operations: &[Operation]) -> Result<(), NoM
     Ok(())
 }
 
-/// The words, the number and the flag of a protected object.
+/// Adds the words, the number and the flag of a protected object.
 fn add_object(set: &mut LinkSet, symbol: &Symbol) -> Result<(), NoMemory>
     ensures { OnOk result (Gains set.old set.new (link Data symbol.now ∷ link Protected symbol.now ∷ link Flag symbol.now ∷ [])) }
 {
@@ -86,7 +86,10 @@ fn add_protected(set: &mut LinkSet, object: &ProtectedView) -> Result<(), NoMemo
     add_operations(set, object.operations.as_slice())
 }
 
-/// All that the linker must find for who names a view: code, data and protected objects, and no types.
+/// Adds all links that a view shows: code, data and protected objects. A type shows none.
+///
+/// # Errors
+/// `NoMemory` if the allocator refuses memory.
 #[tactic(auto, unfolding(al_view::specs::ViewUses::view_uses))]
 pub fn add_shown(set: &mut LinkSet, view: &View) -> Result<(), NoMemory>
     ensures { OnOk result (Gains set.old set.new (view_uses view.now)) }

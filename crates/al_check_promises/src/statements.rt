@@ -1,4 +1,4 @@
-// What the linker must find for statements.
+// The links that statements use.
 ghost use Rattle.std.specs.Prelude.{◌≡◌, map};
 ghost use Rattle.std.specs.List.{flat_map, list_all};
 ghost use Rattle.al_view_typed.specs.StatementViews.{alternative_model, alternatives_of, branch_model, branches_of, piece_model, scheme_model, statement_form_model, statement_model, statements_of};

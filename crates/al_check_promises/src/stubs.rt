@@ -1,4 +1,4 @@
-// Whether the stubs of a unit are told (ARM 10.1.3).
+// Whether the stubs of a unit are shown to its subunits (ARM 10.1.3).
 ghost use Rattle.std.specs.Prelude.{◌≡◌, ◌∷◌, [], ◌&&◌, ◌==◌, not, IfOk, unwrap_or};
 ghost use Rattle.std.specs.List.{flat_map, list_all, list_any};
 ghost use Rattle.std.specs.Option.{option_copied};
@@ -23,21 +23,21 @@ use al_unit_graph::Header;
 use al_view::{Interface, LinkKind, Symbol, View};
 use std::alloc::Global;
 
-/// Whether no byte of a name is a dot.
+/// Whether a name has no dot.
 fn is_simple(name: &[u8]) -> bool
     ensures { result ≡ is_simple name.now }
 {
     name.iter().all(|byte| !(*byte == b'.'))
 }
 
-/// Whether the text has a stub of that name.
+/// Whether the unit's header has a stub with this name.
 fn is_named(header: &Header, stub: &[u8]) -> bool
     ensures { result ≡ list_any (bytes_eq stub.now) (header_model header.now).stubs }
 {
     header.stubs.iter().any(|name| stub == name.as_slice())
 }
 
-/// What stands before the first stub of that name, where there is one.
+/// What is declared before the first stub with this name, if there is one.
 fn before<'a>(parts: &'a Parts, stub: &[u8]) -> Option<&'a Interface>
     ensures { option_copied result ≡ before_stub parts.now.stubs stub.now }
 {
@@ -49,7 +49,7 @@ fn before<'a>(parts: &'a Parts, stub: &[u8]) -> Option<&'a Interface>
     Some(&answered.before)
 }
 
-/// The views there under the reserved word that no text can name.
+/// The views before that stub under the reserved word `separate`, which is no identifier.
 fn told_views<'a>(parts: &'a Parts, stub: &[u8]) -> &'a [View]
     ensures { result.now ≡ views_of (unwrap_or (before_stub parts.now.stubs stub.now) []) separate }
 {
@@ -59,7 +59,7 @@ fn told_views<'a>(parts: &'a Parts, stub: &[u8]) -> &'a [View]
     }
 }
 
-/// The first of some views.
+/// The first of these views, if any.
 fn first_of(views: &[View]) -> &[View]
     ensures { result.now ≡ one_view (first_view views.now) }
 {
@@ -69,7 +69,7 @@ fn first_of(views: &[View]) -> &[View]
     }
 }
 
-/// Whether views show the code of that declaration.
+/// Whether these views show the code of the declaration with this symbol.
 fn show_code(alloc: Global, views: &[View], symbol: &Symbol) -> Result<bool, NoMemory>
     ensures { IfOk result (λ b. b ≡ is_among (flat_map view_uses views.now) (link Code symbol.now)) }
 {
@@ -84,7 +84,7 @@ fn is_declaration(unit: &UnitKey) -> bool
     matches!(unit.kind, UnitKind::Decl)
 }
 
-/// Whether a stub stands in a body or a subunit, has a name of the text, and is told.
+/// Whether a stub is in a body or a subunit, has a name that the header has, and its subprogram is shown to its subunit.
 fn is_told(
     alloc: Global,
     unit: &UnitKey,
@@ -100,7 +100,7 @@ fn is_told(
     Ok(!is_declaration(unit) && (is_named(header, name) && (is_simple(name) && answered)))
 }
 
-/// Whether all stubs are.
+/// Whether all stubs are shown to their subunits.
 pub(crate) fn are_told(
     alloc: Global,
     unit: &UnitKey,

@@ -10,7 +10,7 @@ use indexmap::IndexSet;
 use std::alloc::Global;
 use std::marker::Model;
 
-/// Symbols, each once. A symbol is found without a walk.
+/// A set of symbols: each is in it once, and is found by hashing.
 pub(crate) struct SymbolSet {
     alloc: Global,
     symbols: IndexSet<Symbol>,
@@ -35,7 +35,7 @@ impl Model for SymbolSet {
 }
 
 impl SymbolSet {
-    /// No symbols. It takes no memory.
+    /// The empty set. It takes no memory.
     pub(crate) fn new(alloc: Global) -> Self
         ensures { result ≡ [] }
     {
@@ -45,14 +45,14 @@ impl SymbolSet {
         }
     }
 
-    /// Whether the symbol is there.
+    /// Whether the symbol is in the set.
     pub(crate) fn contains(&self, symbol: &Symbol) -> bool
         ensures { result ≡ list_any (same_symbol symbol.now) self.now }
     {
         self.symbols.contains(symbol)
     }
 
-    /// One more symbol, unless it is there.
+    /// Adds a symbol, unless it is in the set.
     pub(crate) fn insert(&mut self, symbol: &Symbol) -> Result<(), NoMemory>
         ensures { OnOk result ((s : Symbol) → list_any (same_symbol s) self.new ≡ (same_symbol s symbol.now || list_any (same_symbol s) self.old)) }
     {

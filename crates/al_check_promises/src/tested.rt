@@ -1,4 +1,4 @@
-// The tests of a result.
+// The tests of a unit without errors.
 ghost use Rattle.std.specs.Prelude.{◌≡◌, ◌&&◌, IfOk};
 ghost use Rattle.std.specs.List.{list_all};
 ghost use Rattle.al_view.specs.declared.link.LinkSymbol.{LinkSymbol};
@@ -19,7 +19,7 @@ use al_base::{NoMemory, UnitKey};
 use al_view::{LinkKind, Symbol, View};
 use std::alloc::Global;
 
-/// Whether a result uses and shows only what is allowed.
+/// Whether a unit uses and shows only links that are allowed.
 fn links_allowed(allowed: &LinkRule, sound: &SoundUnit) -> bool
     ensures { result ≡ ((list_all (permits allowed.now) (unit_uses (unit_model sound.now.tree)) && list_all (permits allowed.now) (property_uses sound.now.properties)) && list_all (permits allowed.now) (part_uses sound.now.parts)) }
 {
@@ -28,7 +28,7 @@ fn links_allowed(allowed: &LinkRule, sound: &SoundUnit) -> bool
         && parts_pass(&sound.parts, allowed)
 }
 
-/// What a unit's own text defines.
+/// The links that a unit itself defines.
 struct Declared {
     links: LinkSet,
 }
@@ -57,7 +57,7 @@ fn declared_of(alloc: Global, sound: &SoundUnit) -> Result<Declared, NoMemory>
     Ok(Declared { links })
 }
 
-/// Whether a unit defines what its completions show of other things than bodies.
+/// Whether a unit defines all that its completions show, except what bodies define.
 fn declares_left(alloc: Global, sound: &SoundUnit) -> Result<bool, NoMemory>
     ensures { IfOk result (λ b. b ≡ list_all (is_declared (defined (interface_of sound.now.properties sound.now.parts) (unit_model sound.now.tree))) (left_shown (interface_of sound.now.properties sound.now.parts))) }
 {
@@ -71,7 +71,10 @@ fn all_hold(links: bool, declared: bool, code: bool) -> bool
     links && (declared && code)
 }
 
-/// Whether a result is what the check of a unit promises, where it was shown these views.
+/// Whether a unit without errors is what the check promises, if the check was shown these views.
+///
+/// # Errors
+/// `NoMemory` if the allocator refuses memory.
 pub fn is_kept(
     alloc: Global,
     unit: &UnitKey,

@@ -1,4 +1,4 @@
-// What the linker must find for labelled units.
+// The links that labelled units use.
 ghost use Rattle.std.specs.Prelude.{◌≡◌, map, option_map};
 ghost use Rattle.std.specs.List.{flat_map, list_all};
 ghost use Rattle.al_view_typed.specs.StatementViews.{statement_model};
@@ -43,7 +43,7 @@ fn some_elaboration_passes(elaboration: &Option<Elaboration>, test: &LinkRule) -
     }
 }
 
-/// The body of an entry, and the component that is its barrier.
+/// Whether the links of a protected object's entry pass the test: its body, and the component that is its barrier.
 fn entry_passes(entry: &Option<EntryOf>, test: &LinkRule) -> bool
     ensures { result ≡ list_all (permits test.now) (some_uses entry_uses entry.now) }
 {
@@ -56,7 +56,7 @@ fn entry_passes(entry: &Option<EntryOf>, test: &LinkRule) -> bool
     }
 }
 
-/// What the body of an entry uses.
+/// Whether the links that the body of an entry uses pass the test.
 fn barrier_passes(body: &Symbol, object: &Symbol, barrier: &ObjectPlace, test: &LinkRule) -> bool
     ensures { result ≡ list_all (permits test.now) (kind_uses body.now (kinds.Entry object.now barrier.now)) }
 {
@@ -65,7 +65,7 @@ fn barrier_passes(body: &Symbol, object: &Symbol, barrier: &ObjectPlace, test: &
         && place_passes(LinkKind::Data, barrier, test)
 }
 
-/// What a body uses to enter and leave a protected object.
+/// Whether the links with which a body enters and leaves a protected object pass the test.
 fn kind_passes(body: &Symbol, kind: &BodyKind, test: &LinkRule) -> bool
     ensures { result ≡ list_all (permits test.now) (kind_uses body.now kind.now) }
 {
@@ -99,7 +99,7 @@ fn bodies_pass(bodies: &[TypedBody], test: &LinkRule) -> bool
     true
 }
 
-/// Whether all passes that the linker must find for a labelled unit.
+/// Whether all links that a labelled unit uses pass the test.
 #[tactic(auto, unfolding(al_view_typed::specs::UnitTrees::unit_model, al_view_typed::specs::Uses::unit_uses))]
 pub fn uses_pass(unit: &TypedUnit, test: &LinkRule) -> bool
     ensures { result ≡ list_all (permits test.now) (unit_uses (unit_model unit.now)) }

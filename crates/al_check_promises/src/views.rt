@@ -1,4 +1,4 @@
-// What the linker must find for who names a view.
+// Whether the links that views show pass a test.
 ghost use Rattle.std.specs.Prelude.{◌≡◌, ◌&&◌};
 ghost use Rattle.std.specs.List.{flat_map, list_all};
 ghost use Rattle.al_view.specs.ViewUses.{callee_uses, flag_uses, link, place_uses, subprogram_uses, view_uses};
@@ -7,7 +7,7 @@ ghost use Rattle.al_view.specs.declared.link.LinkKind.TheVariants.{Data, Flag, P
 use crate::test::LinkTest;
 use al_view::{CallKind, LinkKind, ObjectPlace, Operation, SubprogramView, Symbol, View, ViewKind};
 
-/// Whether what lies at a place of this kind passes: what lies in a frame the linker doesn't see.
+/// Whether the link of an object at this place passes the test. An object in a frame has no link.
 pub(crate) fn place_passes<T: LinkTest>(kind: LinkKind, place: &ObjectPlace, test: &T) -> bool
     ensures { result ≡ list_all (T.passing test.now) (place_uses kind place.now) }
 {
@@ -17,7 +17,7 @@ pub(crate) fn place_passes<T: LinkTest>(kind: LinkKind, place: &ObjectPlace, tes
     }
 }
 
-/// Whether a flag passes, where there is one.
+/// Whether the link of a flag passes the test, if there is a flag.
 pub(crate) fn flag_passes<T: LinkTest>(flag: &Option<ObjectPlace>, test: &T) -> bool
     ensures { result ≡ list_all (T.passing test.now) (flag_uses flag.now) }
 {
@@ -27,7 +27,7 @@ pub(crate) fn flag_passes<T: LinkTest>(flag: &Option<ObjectPlace>, test: &T) -> 
     }
 }
 
-/// Whether the code of what is called passes.
+/// Whether the code of a called subprogram passes the test.
 fn callee_passes<T: LinkTest>(call: &CallKind, symbol: &Symbol, test: &T) -> bool
     ensures { result ≡ list_all (T.passing test.now) (callee_uses call.now symbol.now) }
 {
@@ -59,7 +59,7 @@ fn operations_pass<T: LinkTest>(operations: &[Operation], test: &T) -> bool
     true
 }
 
-/// Whether the words and the number of a protected object pass.
+/// Whether the links of the words and of the number of a protected object pass the test.
 fn object_passes<T: LinkTest>(symbol: &Symbol, test: &T) -> bool
     ensures { result ≡ (T.passing test.now (link Data symbol.now) && T.passing test.now (link Protected symbol.now) && T.passing test.now (link Flag symbol.now)) }
 {
@@ -68,7 +68,7 @@ fn object_passes<T: LinkTest>(symbol: &Symbol, test: &T) -> bool
         && test.passes(LinkKind::Flag, symbol)
 }
 
-/// Whether all passes that the linker must find for who names a view: code, data and protected objects, and no types.
+/// Whether all links that a view shows pass the test: code, data and protected objects. A type shows none.
 #[tactic(auto, unfolding(al_view::specs::ViewUses::view_uses))]
 pub fn view_passes<T: LinkTest>(view: &View, test: &T) -> bool
     ensures { result ≡ list_all (T.passing test.now) (view_uses view.now) }

@@ -1,4 +1,4 @@
--- The reading of Ada texts, by a table of answers.
+-- The analyzer of Ada units, by a table of answers.
 use Rattle.std.specs.Prelude.{List, Option, Some, None, if◌then◌else◌}
 use Rattle.al_base_fault.specs.declared.check_rule.CheckRule.TheVariants.{MissingCompletion}
 use Rattle.al_base_fault.specs.Faults.{fault_at}
@@ -36,7 +36,7 @@ subprogram_here t h s = where_open h (if is_whole h then whole_declared t h s el
 abbrev pub head_here : Table → CheckState → SpecificationTree → Read CheckState (List DeclarationTree)
 head_here t h s = where_open h (if is_whole h then whole_head t h s else inner_head t h s)
 
--- what waits in the innermost part
+-- what waits for completion in the innermost part
 abbrev pub missing_here : CheckState → Label → Option Fault
 missing_here h l = missing_fault (place_of l) h.env.uncompleted
 

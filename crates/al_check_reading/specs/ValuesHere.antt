@@ -1,5 +1,5 @@
--- The expressions of a text where the check of its unit stands, by a table of answers. The temporaries of what is right take the next words of the
--- frame.
+-- Expressions at the place that the check of a unit has reached, by a table of answers. If an expression is right, its temporaries take the next
+-- words of the frame.
 use Rattle.std.specs.Prelude.{ℕ, Option, Some, None, Result, Ok, Err}
 use Rattle.al_stmts.specs.declared.choice.Choice.{Choice}
 use Rattle.al_base_fault.specs.Judging.{map_ok}
@@ -26,7 +26,7 @@ use Rattle.al_check_here.specs.declared.state.OpenBody.{OpenBody}
 use Rattle.al_check_here.specs.declared.state.CheckState.{CheckState}
 use Rattle.al_check_declared.specs.Nowhere.{not_yet_fault}
 
--- what expressions know there
+-- the context of expressions at the place
 abbrev pub surroundings : CheckState → Surroundings
 surroundings h = record {
   place = h.env.scope;
@@ -35,7 +35,7 @@ surroundings h = record {
   own = h.unit.labeller.own;
 }
 
--- what was read from a word on, where the next word is that after it
+-- what was judged from a word on, with the word after it as the next one
 abbrev pub worded : {A : Type 0} → CheckState → Worded A → Read CheckState A
 worded h w = (at_word h w.0, w.1)
 
@@ -60,7 +60,7 @@ abbrev pub result_of : Option OpenBody → Option SubtypeView
 result_of None = None
 result_of (Some b) = b.result
 
--- in what is no function no value is read
+-- outside of any function no value is judged
 abbrev pub result_from : Table → CheckState → ExpressionTree → ℕ → Option SubtypeView → Worded TypedTree
 result_from t h e word None = (word, Err not_yet_fault)
 result_from t h e word (Some of) = result_at t (surroundings h) of e word

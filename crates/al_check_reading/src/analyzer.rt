@@ -1,4 +1,4 @@
-// Who reads Ada texts for the walk over a unit.
+// The analyzer of Ada units, which the walk over a unit calls.
 ghost use Rattle.std.specs.Prelude.{◌≡◌};
 ghost use Rattle.al_tree.specs.Lexemes.{place_label};
 ghost use Rattle.al_check_reading.specs.Ada.{incomplete_here};
@@ -27,7 +27,7 @@ use al_view::{Bounds, Seq};
 use al_view_typed::{Typed, TypedBody, TypedDeclaration, TypedStatement};
 use std::alloc::Global;
 
-/// E302 at the end of a package's declaration, where a private type has no full declaration (ARM 7.3(4)).
+/// E302 at the end of a package's declaration, if a private type has no full declaration (ARM 7.3(4)).
 fn incomplete_here(state: &CheckState, end: Place) -> Option<Fault>
     ensures { result ≡ incomplete_here state.now (place_label end) }
 {
@@ -40,9 +40,11 @@ fn incomplete_here(state: &CheckState, end: Place) -> Option<Fault>
     None
 }
 
-/// Reads the text of a unit where it stands, by what a recorder answers.
+/// Judges the declarations, statements and expressions of a unit at the place that the check has reached, by the answers of a recorder.
 pub struct AdaAnalyzer<A: Answers> {
+    /// The state of the check.
     pub state: CheckState,
+    /// What is asked, and what was asked.
     pub recorder: Recorder<A>,
 }
 
@@ -58,7 +60,7 @@ impl<A: Answers + Drop> Drop for AdaAnalyzer<A> {
 impl<A: Answers> AdaAnalyzer<A> {
     ghost use Rattle.std.specs.Prelude.{◌≡◌};
 
-    /// At the start of a unit's text.
+    /// An analyzer at the start of a unit.
     pub fn new(state: CheckState, recorder: Recorder<A>) -> Self
         ensures state { result.state ≡ state }
         ensures recorder { result.recorder ≡ recorder }
@@ -66,7 +68,7 @@ impl<A: Answers> AdaAnalyzer<A> {
         AdaAnalyzer { state, recorder }
     }
 
-    /// Where the check stands, and what was asked. It takes no memory.
+    /// The state of the check, and what was asked. It takes no memory.
     pub fn into_parts(self) -> (CheckState, Recorder<A>)
         ensures { result ≡ (self.state, self.recorder) }
     {

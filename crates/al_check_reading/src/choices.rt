@@ -1,4 +1,4 @@
-// Choices of case statements where the check of a unit stands (ARM 5.4).
+// Choices of case statements at the place that the check of a unit has reached (ARM 5.4).
 ghost use Rattle.std.specs.Prelude.{◌≡◌, IfOk};
 ghost use Rattle.al_query.specs.Reads.{FromAnswers};
 ghost use Rattle.al_tree.specs.ExpressionViews.{expression_model};
@@ -16,6 +16,9 @@ use al_tree::{Choice as ChoiceOfText, Expression};
 use al_view::Bounds;
 
 /// The bounds of the type of a selector.
+///
+/// # Errors
+/// `NoMemory` if the allocator refuses memory.
 pub fn whole<A: Answers>(
     state: &CheckState,
     selector: &Expression,
@@ -27,7 +30,10 @@ pub fn whole<A: Answers>(
     whole_at(&site(state), selector, recorder)
 }
 
-/// A choice with its selector.
+/// Judges a choice, with its selector.
+///
+/// # Errors
+/// `NoMemory` if the allocator refuses memory.
 pub fn choice<A: Answers>(
     state: &CheckState,
     selector: &Expression,

@@ -1,4 +1,4 @@
-// Ranges of for loops where the check of a unit stands (ARM 5.5).
+// Ranges of for loops at the place that the check of a unit has reached (ARM 5.5).
 ghost use Rattle.std.specs.Prelude.{◌≡◌, IfOk};
 ghost use Rattle.al_base_fault.specs.Judging.{map_ok};
 ghost use Rattle.al_query.specs.Reads.{FromAnswers};
@@ -17,7 +17,7 @@ use al_stmts::LoopRange;
 use al_stmts_ranges::{FoundRange, all_values, loop_range_at};
 use al_tree::DiscreteRange;
 
-/// The type of a range that is right is kept for the parameter.
+/// Keeps the type of a range for the loop's parameter, if the range is right.
 fn keep_type(state: &mut CheckState, found: CheckResult<FoundRange>) -> CheckResult<LoopRange>
     ensures state { state.new ≡ with_range state.old (map_ok found_range_model found) }
     ensures range { map_ok range_model result ≡ map_ok range_found (map_ok found_range_model found) }
@@ -34,7 +34,10 @@ fn keep_type(state: &mut CheckState, found: CheckResult<FoundRange>) -> CheckRes
     }
 }
 
-/// The range of a for loop (ARM 5.5(4)).
+/// Judges the range of a for loop (ARM 5.5(4)).
+///
+/// # Errors
+/// `NoMemory` if the allocator refuses memory.
 pub fn loop_range<A: Answers>(
     state: &mut CheckState,
     range: &DiscreteRange,

@@ -1,4 +1,4 @@
-// Expressions where the check of a unit stands.
+// Expressions at the place that the check of a unit has reached.
 ghost use Rattle.std.specs.Prelude.{◌≡◌, IfOk};
 ghost use Rattle.std.specs.Option.{option_copied};
 ghost use Rattle.al_base_fault.specs.Judging.{map_ok};
@@ -26,7 +26,7 @@ use al_tree::Expression;
 use al_view::SubtypeView;
 use al_view_typed::Typed;
 
-/// What expressions know there.
+/// The context of expressions at the place.
 pub(crate) fn site(state: &CheckState) -> Site<'_>
     ensures { site_model result ≡ surroundings state.now }
 {
@@ -37,7 +37,10 @@ pub(crate) fn site(state: &CheckState) -> Site<'_>
     }
 }
 
-/// A condition (ARM 5.3, 5.5, 5.7).
+/// Judges a condition (ARM 5.3, 5.5, 5.7).
+///
+/// # Errors
+/// `NoMemory` if the allocator refuses memory.
 pub fn condition<A: Answers>(
     state: &mut CheckState,
     expression: &Expression,
@@ -52,7 +55,10 @@ pub fn condition<A: Answers>(
     Ok(checked)
 }
 
-/// The moment of a `delay until` (ARM 9.6).
+/// Judges the expression of a `delay until` (ARM 9.6).
+///
+/// # Errors
+/// `NoMemory` if the allocator refuses memory.
 pub fn moment<A: Answers>(
     state: &mut CheckState,
     expression: &Expression,
@@ -67,7 +73,10 @@ pub fn moment<A: Answers>(
     Ok(checked)
 }
 
-/// What is assigned to (ARM 5.2).
+/// Judges the target of an assignment (ARM 5.2).
+///
+/// # Errors
+/// `NoMemory` if the allocator refuses memory.
 pub fn target<A: Answers>(
     state: &mut CheckState,
     expression: &Expression,
@@ -82,7 +91,10 @@ pub fn target<A: Answers>(
     Ok(checked)
 }
 
-/// The value that is assigned to a target that is right.
+/// Judges the value that is assigned to a target that is right.
+///
+/// # Errors
+/// `NoMemory` if the allocator refuses memory.
 pub fn source<A: Answers>(
     state: &mut CheckState,
     target: &Expression,
@@ -98,7 +110,10 @@ pub fn source<A: Answers>(
     Ok(checked)
 }
 
-/// What a name alone does (ARM 6.4, 9.5.3).
+/// Judges a call statement: a name alone (ARM 6.4, 9.5.3).
+///
+/// # Errors
+/// `NoMemory` if the allocator refuses memory.
 pub fn call_effect<A: Answers>(
     state: &mut CheckState,
     expression: &Expression,
@@ -113,7 +128,7 @@ pub fn call_effect<A: Answers>(
     Ok(checked)
 }
 
-/// The subtype of the result of the innermost body.
+/// The subtype of the result of the innermost body, if it is a function.
 fn result_subtype(state: &CheckState) -> Option<&SubtypeView>
     ensures { option_copied result ≡ result_of (innermost state.now.bodies) }
 {
@@ -123,7 +138,7 @@ fn result_subtype(state: &CheckState) -> Option<&SubtypeView>
     }
 }
 
-/// A value of this subtype, with the next word after it.
+/// Judges the value of a return statement, for a result of this subtype.
 fn returned<A: Answers>(
     state: &CheckState,
     expression: &Expression,
@@ -139,7 +154,10 @@ fn returned<A: Answers>(
     }
 }
 
-/// The value that the innermost function returns (ARM 6.5).
+/// Judges the value that the innermost function returns (ARM 6.5).
+///
+/// # Errors
+/// `NoMemory` if the allocator refuses memory.
 pub fn result_value<A: Answers>(
     state: &mut CheckState,
     expression: &Expression,
@@ -154,7 +172,7 @@ pub fn result_value<A: Answers>(
     Ok(checked)
 }
 
-/// The value of a selector that was found with its type.
+/// The value of a selector, whose type was determined.
 fn value_of(found: CheckResult<DeterminedValue>) -> CheckResult<Typed>
     ensures { map_ok typed_model result ≡ map_ok value_found (map_ok found_model found) }
 {
@@ -164,7 +182,10 @@ fn value_of(found: CheckResult<DeterminedValue>) -> CheckResult<Typed>
     }
 }
 
-/// The selector of a case statement (ARM 5.4).
+/// Judges the selector of a case statement (ARM 5.4).
+///
+/// # Errors
+/// `NoMemory` if the allocator refuses memory.
 pub fn selector<A: Answers>(
     state: &mut CheckState,
     expression: &Expression,

@@ -93,7 +93,7 @@ half-told_in name Body k (answers.Kind v) h =
     subst (λ (x : UnitKind). has_unit (key name x ∷ []) (key name k) ≡ true) (sym same) (has_unit-first (key name k) [])
 half-told_in name _ k _ h = absurd (cc)
 
--- it is told by the answer to what the unit is
+-- the answer to what the unit is shows it
 pub half-answered : (unit : UnitKey) (k : UnitKind) (a : AnswerKind) → half_kind unit.kind a ≡ Some k → has_unit (told_by (Of unit Kind) a) (key unit.name k) ≡ true
 half-answered unit k a h = half-told_in unit.name unit.kind k a h
 
@@ -140,7 +140,7 @@ known-own us log = known-own_in [] us (flat_map (λ e. learned e.0 e.1) log)
 pub known-left : (us vs : List UnitKey) (log : Log) → AreKnown (known_after (us ++ vs) log) us
 known-left us vs log = known-first us vs (flat_map (λ e. learned e.0 e.1) log)
 
--- what is known where these are known at first is known where those are among which they are
+-- what is known if these units are known at first is known if any wider list is
 pub known-among : (first base us : List UnitKey) (log : Log) → ((u : UnitKey) → has_unit first u ≡ true → has_unit base u ≡ true) → AreKnown (known_after first log) us → AreKnown (known_after base log) us
 known-among first base us log w h = known-wider (known_after first log) (known_after base log) us (λ u m. at u (has_unit-cases first answered u m)) h
   where
@@ -215,7 +215,7 @@ mentions-named (answers.IsPrivate b) c h = absurd (cc)
 mentions-named (answers.NeedsBody b) c h = absurd (cc)
 mentions-named (answers.Completions d) c h = absurd (cc)
 
--- ---- what a text names
+-- ---- what a source names
 
 pub own-named : (h : Header) (u : UnitKey) → has_unit (own_names h h.parent_body) u ≡ true → has_unit (named_by h) u ≡ true
 unfolding named_by

@@ -1,4 +1,4 @@
--- Which units a unit knows once it has asked the units round it, told from answers.
+-- The units that a unit knows once it has asked the units that enclose it, by a table of answers.
 use Rattle.std.specs.Prelude.{ℕ, zero, suc, ◌≡◌, true, List, [], ◌∷◌, ◌++◌, ⊤, map, length, Option, Some, None, is_some, if◌then◌else◌}
 use Rattle.std.specs.List.{flat_map}
 use Rattle.std.specs.Option.{option_map}
@@ -20,11 +20,11 @@ use Rattle.al_query.specs.declared.query.Property.TheVariants.{Context, Kind, Pa
 use Rattle.al_query.specs.declared.query.Query.TheVariants.{Of}
 use Rattle.al_query_outcome.specs.ReadsLaw.{AsksOthers, named_by, subunit}
 
--- what another unit answers; a unit doesn't ask itself
+-- the answer of another unit; a unit doesn't ask itself
 abbrev pub asked_of : Table → UnitKey → UnitKey → Property → AnswerKind
 asked_of t own unit property = if same_unit own unit then answers.Nothing else t (Of unit property)
 
--- the other half of a unit: a body that acts as its declaration where there is none (ARM 10.1.4(4)), the declaration of a body that is there
+-- the other half of a unit: a body that acts as its declaration if there is none (ARM 10.1.4(4)), or the declaration of a body that exists
 abbrev pub half_kind : UnitKind → AnswerKind → Option UnitKind
 half_kind Decl answers.Nothing = Some Body
 half_kind Body (answers.Kind view) = Some Decl
@@ -51,13 +51,13 @@ context_mentions (Some c) = flat_map (λ u. declarations u.name) c.withs
 abbrev pub mentions_of : Table → UnitKey → UnitKey → List UnitKey
 mentions_of t own unit = context_mentions (context_of (asked_of t own unit Context))
 
--- a unit and those that are reached from it by their parents, the nearest first, so many at most
+-- a unit and its parents in turn, the nearest first, at most so many
 abbrev pub outward : Table → UnitKey → ℕ → Option UnitKey → List UnitKey
 outward t own zero next = []
 outward t own (suc n) None = []
 outward t own (suc n) (Some unit) = unit ∷ outward t own n (parent_of (asked_of t own unit Parent))
 
--- in which body a subunit's stub stands (ARM 10.1.3(8)): in the library body of that name, or else in the subunit of that name
+-- the body in which a subunit's stub is (ARM 10.1.3(8)): the library body with this name, or else the subunit with this name
 abbrev pub parent_body : Table → UnitKey → List ℕ → UnitKey
 parent_body t own name = if is_some (own_view_of (asked_of t own (body name) Kind)) then body name else subunit name
 
@@ -65,13 +65,13 @@ parent_body t own name = if is_some (own_view_of (asked_of t own (body name) Kin
 abbrev pub own_declaration : Header → List UnitKey
 own_declaration h = if is_library_body h.form then declaration h.name ∷ [] else []
 
--- the units round a unit: the declaration of a library body, and the ancestors; of a subunit the bodies round it, outward up to a library unit's,
--- and the ancestors of that one
+-- the units that enclose a unit: the declaration of a library body, and the ancestors; for a subunit the bodies that enclose it, outward up to a
+-- library unit's, and the ancestors of that one
 abbrev pub round : Table → UnitKey → Header → Option Mention → List UnitKey
 round t own h None = own_declaration h ++ outward t own (length h.name) (option_map declaration (names.parent_of h.name))
 round t own h (Some parent) = outward t own (length h.name) (Some (parent_body t own parent.name))
 
--- with the other halves of these
+-- these units with their other halves
 abbrev pub with_halves : Table → UnitKey → List UnitKey → List UnitKey
 with_halves t own units = units ++ flat_map (half_of t own) units
 
@@ -79,13 +79,13 @@ with_halves t own units = units ++ flat_map (half_of t own) units
 abbrev pub own_mentions : Header → List UnitKey
 own_mentions h = flat_map (λ m. declarations m.name) h.mentions
 
--- with the units that are mentioned, and with those of their other halves
+-- these units with those that are mentioned, and with the other halves of these
 abbrev pub with_mentions : Table → UnitKey → Header → List UnitKey → List UnitKey
 with_mentions t own h units =
     let mentioned = flat_map (mentions_of t own) units in
     units ++ (mentioned ++ (flat_map (half_of t own) (own_mentions h) ++ flat_map (half_of t own) mentioned))
 
--- all that are known then: those that the text names, the units round it, and those that are mentioned
+-- all units that are known then: those that the source names, those that enclose the unit, and those that are mentioned
 unfoldable pub units_known : Table → UnitKey → Header → List UnitKey
 units_known t own h = named_by h ++ with_mentions t own h (with_halves t own (round t own h h.parent_body))
 
@@ -95,7 +95,7 @@ units_known t own h = named_by h ++ with_mentions t own h (with_halves t own (ro
 abbrev pub AreLearned : Log → List UnitKey → Type 0
 AreLearned log units = (known : List UnitKey) → AreKnown (known_after known log) units
 
--- a unit is known, where there is one
+-- a unit is known, if there is one
 abbrev pub IsKnown : List UnitKey → Option UnitKey → Type 0
 IsKnown known None = ⊤
 IsKnown known (Some unit) = has_unit known unit ≡ true

@@ -1,4 +1,4 @@
--- Where the stub of a subunit stands, told from answers (ARM 10.1.3).
+-- The body in which the stub of a subunit is, by a table of answers (ARM 10.1.3).
 use Rattle.std.specs.Prelude.{ℕ, zero, suc, List, [], ◌∷◌, ◌++◌, length, Option, Some, None, if◌then◌else◌}
 use Rattle.al_base.specs.declared.unit_key.UnitKey.{UnitKey}
 use Rattle.al_query.specs.Answers.{parent_of}
@@ -10,17 +10,17 @@ use Rattle.al_scope.specs.declared.region.UnitPart.{UnitPart}
 use Rattle.al_scope.specs.UnitPlaces.{is_subunit, part_of}
 use Rattle.al_view.specs.declared.part.Part.TheVariants.{Stub}
 
--- in which body the stub of a subunit stands; a library body has none
+-- the body in which the stub of a subunit is; a library body has none
 abbrev pub next_body : Table → UnitKey → Option UnitKey
 next_body t unit = if is_subunit unit then parent_of (t (Of unit Parent)) else None
 
--- the stubs round a subunit of that name, whose own stub stands in this body, the outermost first, so many at most
+-- the stubs that enclose the subunit with this name, whose own stub is in this body, outermost first: at most so many
 abbrev pub stubs_in : Table → ℕ → List ℕ → Option UnitKey → List UnitPart
 stubs_in t zero name next = []
 stubs_in t (suc n) name None = []
 stubs_in t (suc n) name (Some unit) = stubs_in t n unit.name (next_body t unit) ++ part_of unit (Stub (last_of name)) ∷ []
 
--- the same for a stub of this name, each after those inside it
+-- the stub with this name, and the stubs that enclose it, from the inside out: at most so many
 abbrev pub stubs_out : Table → ℕ → List ℕ → Option UnitKey → List UnitPart
 stubs_out t zero stub next = []
 stubs_out t (suc n) stub None = []

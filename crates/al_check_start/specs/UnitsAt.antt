@@ -1,5 +1,5 @@
--- How the check of a unit begins: what its text says of its place, the place, what waits there, and whether its name is taken (ARM 10.1, 10.2), told from
--- answers.
+-- How the check of a unit begins: its header, the place at its start, what waits for completion there, and whether its name is taken (ARM 10.1,
+-- 10.2), by a table of answers.
 use Rattle.std.specs.List.{flat_map}
 use Rattle.std.specs.Prelude.{ℕ, Bool, true, false, ◌&&◌, ◌||◌, List, [], ◌∷◌, map, not, Option, Some, None, Result, Ok, if◌then◌else◌}
 use Rattle.std.specs.Option.{is_none, option_map, unwrap_or}
@@ -51,19 +51,19 @@ plain_symbol unit = record { unit = unit; name = last_of unit.name; number = 0 }
 abbrev pub declared_view : Table → UnitKey → Option ViewKind
 declared_view t unit = own_view_of (t (Of (declaration unit.name) Kind))
 
--- the declaration of a library unit's parent, by the name that stands in its text
+-- the declaration of a library unit's parent, by the name in the unit itself
 abbrev pub above : LibraryItemTree → Option UnitKey
 above item = option_map declaration (names.parent_of (full_name (item_name item)))
 
--- of a library unit, with what it completes
+-- for a library unit, with what it completes
 abbrev pub of_library : LibraryItemTree → Option ViewKind → Completed
 of_library item view = record { view = view; parent = above item; stubs = [] }
 
--- of a subunit with this parent body
+-- for a subunit with this parent body
 abbrev pub of_subunit : Table → UnitKey → List ℕ → Completed
 of_subunit t unit parent = record { view = stub_view t unit.name parent; parent = Some (body_named t parent); stubs = stubs_round t unit.name parent }
 
--- the declaration of a library body, the stub of a subunit
+-- by the declaration of a library body, or the stub of a subunit
 abbrev pub completed_at : Table → UnitKey → LibraryItemTree → Completed
 completed_at t unit (LibrarySubprogram p s) = of_library (LibrarySubprogram p s) None
 completed_at t unit (LibraryPackage p l k) = of_library (LibraryPackage p l k) None
@@ -71,7 +71,7 @@ completed_at t unit (LibraryBody s b) = of_library (LibraryBody s b) (declared_v
 completed_at t unit (LibraryPackageBody l k) = of_library (LibraryPackageBody l k) (declared_view t unit)
 completed_at t unit (Subunit l o n s b) = of_subunit t unit (full_name n)
 
--- ---- what its text says of its place
+-- ---- its header: what its source says of its place
 
 abbrev pub is_package_item : LibraryItemTree → Bool
 is_package_item (LibrarySubprogram p s) = false
@@ -96,7 +96,7 @@ own_text unit item context view stubs = record {
 
 -- ---- its place
 
--- a library package is seen in its own declaration
+-- a library package is visible inside itself
 abbrev pub own_view : UnitKey → LibraryItemTree → Option ViewKind
 own_view unit (LibraryPackage p l k) = Some (OfPackage (plain_symbol unit))
 own_view unit (LibrarySubprogram p s) = None
@@ -104,19 +104,19 @@ own_view unit (LibraryBody s b) = None
 own_view unit (LibraryPackageBody l k) = None
 own_view unit (Subunit l o n s b) = None
 
--- the regions round its start, and the units that are mentioned there, with the packages among them
+-- the regions that enclose its start, and the units that are mentioned there, with the packages among them
 abbrev pub place_at : Table → OwnText → Option ViewKind → Place × List UnitKey
 place_at t own view =
     let entered : Place = record { mentioned = []; regions = unit_regions t own [] } in
     all_mentioned t (mentioned view own.unit.name entered) (packaged view own.unit.name []) (mentioned_names t own)
 
--- ---- what waits there
+-- ---- what waits for completion there
 
 abbrev pub completion : UnitKey → Option ViewKind → List Completion
 completion unit None = []
 completion unit (Some v) = record { name = last_of unit.name; view = v } ∷ []
 
--- of a package body what its declaration leaves to it; of another body what it completes itself. It waits as its place sees it.
+-- for a package body, what its declaration leaves to it; for another body, what it completes itself; with views as its place sees them
 abbrev pub waiting : Table → UnitKey → LibraryItemTree → Option ViewKind → List Completion
 waiting t unit (LibraryPackageBody l k) view = completions_of (t (Of (declaration unit.name) Completions))
 waiting t unit (LibraryBody s b) view = completion unit view
@@ -124,7 +124,7 @@ waiting t unit (Subunit l o n s b) view = completion unit view
 waiting t unit (LibrarySubprogram p s) view = []
 waiting t unit (LibraryPackage p l k) view = []
 
--- in how many bodies a stub stands
+-- the number of bodies that enclose a stub
 abbrev pub call_depth : CallKind → ℕ
 call_depth (calls.Subprogram depth) = depth
 call_depth _ = 0
@@ -133,8 +133,8 @@ abbrev pub depth_of : LibraryItemTree → Option ViewKind → ℕ
 depth_of (Subunit l o n s b) (Some (OfSubprogram s')) = call_depth s'.call
 depth_of _ _ = 0
 
--- A library package is a declaration of its name: the first in its text, so that a subprogram of that name in it is another one, and hides it as
--- a prefix (ARM 8.3(15)).
+-- A library package is a declaration of its name: the first in the unit, so a subprogram with that name in it is another one, and hides it as a
+-- prefix (ARM 8.3(15)).
 abbrev pub homonyms_at : UnitKey → LibraryItemTree → Counts
 homonyms_at unit (LibraryPackage p l k) = with_name [] (last_of unit.name)
 homonyms_at unit (LibrarySubprogram p s) = []
@@ -151,11 +151,11 @@ progress_at unit item depth =
 abbrev pub named_in : UnitKey → List ℕ → PrivateName
 named_in unit name = record { unit = unit; name = name }
 
--- those that a unit's visible part declares
+-- the private types that a unit's visible part declares
 abbrev pub private_names_of : Table → UnitKey → List PrivateName
 private_names_of t unit = map (named_in unit) (names_told (t (Of unit context_property)))
 
--- of a declaration those of its ancestors, whose full views its visible part may see and doesn't tell (ARM 7.3(5), 10.1.1(12))
+-- for a declaration, the private types of its ancestors: its visible part may see their full views, and doesn't show them (ARM 7.3(5), 10.1.1(12))
 abbrev pub hidden_of : Table → UnitKind → List ℕ → List PrivateName
 hidden_of t Decl name = flat_map (private_names_of t) (ancestor_units name)
 hidden_of t Body name = []
@@ -177,7 +177,7 @@ declares (Subunit l o n s b) view = false
 abbrev pub has_views : List ViewKind → Bool
 has_views vs = not (keys.is_none vs)
 
--- whether the parent's visible or private part declares the name, of a root unit Standard (ARM 8.3(26), 10.1.1)
+-- whether the parent's visible or private part declares the name; the parent of a root unit is Standard (ARM 8.3(26), 10.1.1)
 abbrev pub taken_in : Table → List ℕ → Option (List ℕ) → Bool
 taken_in t name None = has_views (views_of (t (Named standard_unit part.Visible name)))
 taken_in t name (Some p) =

@@ -1,4 +1,4 @@
-// Whether the name of a unit is taken (ARM 8.3(26), 10.1.1).
+// Whether the name of a unit is taken by its parent (ARM 8.3(26), 10.1.1).
 ghost use Rattle.std.specs.Prelude.{◌≡◌, ◌&&◌, ◌||◌, Some, None, IfOk, if◌then◌else◌};
 ghost use Rattle.al_base_fault.specs.declared.check_rule.CheckRule.TheVariants.{Duplicate};
 ghost use Rattle.al_unit_header.specs.Units.{item_name, place_of};
@@ -22,7 +22,7 @@ use al_unit_graph::parent_of;
 use al_view::{Part, View};
 use std::alloc::Global;
 
-/// Whether the unit is a declaration, or a body that acts as one, where it completes this.
+/// Whether the unit is a declaration, or a body that acts as one. `view` is what it completes, if anything.
 fn declares(item: &LibraryItem, view: &Option<View>) -> bool
     ensures { result ≡ declares (library_item_model item.now) view.now }
 {
@@ -76,7 +76,7 @@ fn either(one: bool, other: bool) -> bool
     one || other
 }
 
-/// Whether the parent of that name declares the name; both parts are asked.
+/// Whether the parent with this name declares the identifier. Both of its parts are asked.
 fn taken_in_parent<A: Answers>(
     alloc: Global,
     parent: &[u8],
@@ -92,7 +92,7 @@ fn taken_in_parent<A: Answers>(
     Ok(taken)
 }
 
-/// Whether the parent of the unit of that full name declares its last identifier, of a root unit Standard.
+/// Whether the parent of the unit with this full name declares its last identifier. The parent of a root unit is Standard.
 fn is_taken<A: Answers>(
     alloc: Global,
     name: &[u8],
@@ -118,7 +118,7 @@ fn duplicate(item: &LibraryItem) -> Fault
     }
 }
 
-/// E301 at the name of an item that declares a name which is taken.
+/// E301 at the name of an item, if the item declares a name that is taken.
 fn duplicate_if(declares: bool, taken: bool, item: &LibraryItem) -> Option<Fault>
     ensures { result ≡ (if declares && taken then Some (fault_at (place_of (item_name (library_item_model item.now))) Duplicate) else None) }
 {
@@ -128,7 +128,7 @@ fn duplicate_if(declares: bool, taken: bool, item: &LibraryItem) -> Option<Fault
     None
 }
 
-/// E301 at the name of a unit that its parent declares too, where the unit completes this.
+/// E301 at the name of a unit, if its parent declares that name too. `view` is what the unit completes, if anything.
 pub(crate) fn name_fault<A: Answers>(
     alloc: Global,
     unit: &UnitKey,

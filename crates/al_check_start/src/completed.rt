@@ -1,4 +1,4 @@
-// What a unit completes.
+// The declaration that a unit completes, and the unit that encloses it.
 ghost use Rattle.std.specs.Prelude.{◌≡◌, IfOk};
 ghost use Rattle.std.specs.Option.{option_map};
 ghost use Rattle.al_scope_context.specs.ContextPragmas.{full_name};
@@ -20,18 +20,18 @@ use al_unit_graph::parent_of;
 use al_view::{Seq, View};
 use std::alloc::Global;
 
-/// What a unit completes, and round which unit it stands.
+/// The declaration that a unit completes, and the unit that encloses it.
 #[derive(Drop)]
 pub struct Completed {
-    /// The own view of the declaration of a library body, or the subprogram that the stub of a subunit stands for.
+    /// The own view of the declaration of a library body, or the subprogram whose body the stub of a subunit replaces.
     pub view: Option<View>,
-    /// The declaration of a library unit's parent; the parent body of a subunit.
+    /// The declaration of a library unit's parent, or the parent body of a subunit.
     pub parent: Option<UnitKey>,
-    /// Of a subunit the stubs round it, outermost first.
+    /// For a subunit, the stubs that enclose it, outermost first.
     pub stubs: Seq<UnitPart>,
 }
 
-/// The declaration of the parent of a library unit of that name.
+/// The declaration of the parent of the library unit with this name.
 fn parent_of_name(alloc: Global, name: &[u8]) -> Result<Option<UnitKey>, NoMemory>
     ensures { IfOk result (λ parent. parent ≡ option_map declaration (names.parent_of name.now)) }
 {
@@ -45,7 +45,7 @@ fn parent_of_name(alloc: Global, name: &[u8]) -> Result<Option<UnitKey>, NoMemor
     }
 }
 
-/// The declaration of a library unit's parent, by the name that stands in its text.
+/// The declaration of a library unit's parent, by the name in the unit itself.
 fn above(alloc: Global, item: &LibraryItem) -> Result<Option<UnitKey>, NoMemory>
     ensures { IfOk result (λ parent. parent ≡ above (library_item_model item.now)) }
 {
@@ -54,7 +54,7 @@ fn above(alloc: Global, item: &LibraryItem) -> Result<Option<UnitKey>, NoMemory>
     Ok(parent)
 }
 
-/// Of a library unit, with what it completes.
+/// The declaration that a library unit completes (`view`), and its parent.
 fn of_library(alloc: Global, item: &LibraryItem, view: Option<View>) -> Result<Completed, NoMemory>
     ensures { IfOk result (λ completed. completed ≡ of_library (library_item_model item.now) view) }
 {
@@ -67,7 +67,7 @@ fn of_library(alloc: Global, item: &LibraryItem, view: Option<View>) -> Result<C
     })
 }
 
-/// Of a library body.
+/// The declaration that a library body completes, and its parent.
 fn of_body<A: Answers>(
     alloc: Global,
     unit: &UnitKey,
@@ -82,7 +82,7 @@ fn of_body<A: Answers>(
     Ok(completed)
 }
 
-/// Of a subunit with this parent body.
+/// The declaration that a subunit with this parent body completes.
 fn of_subunit<A: Answers>(
     alloc: Global,
     unit: &UnitKey,
@@ -105,7 +105,7 @@ fn of_subunit<A: Answers>(
     })
 }
 
-/// What a unit completes, and round which unit it stands.
+/// The declaration that a unit completes, and the unit that encloses it.
 pub(crate) fn completed_at<A: Answers>(
     alloc: Global,
     unit: &UnitKey,

@@ -1,4 +1,4 @@
-// The other halves of units.
+// The two halves of library units: declaration and body.
 ghost use Rattle.std.specs.Prelude.{◌≡◌, ◌∷◌, [], ◌++◌, IfOk, OnOk};
 ghost use Rattle.std.specs.List.{flat_map};
 ghost use Rattle.al_query.specs.Asked.{AsksOf, by_property};
@@ -11,8 +11,8 @@ use al_query::{AnswerKind, Answers, Property, Recorder};
 use al_view::is_unit;
 use std::alloc::Global;
 
-/// Which half of a unit is known by what the other half is: where there is no declaration a body may act as one (ARM 10.1.4(4)); a
-/// body that is there names its declaration.
+/// The other half of a unit, if the answer for this half makes it known. If there is no declaration, a body may act as one (ARM 10.1.4(4)); a body
+/// that exists makes its declaration known.
 fn half_kind(kind: UnitKind, answer: &AnswerKind) -> Option<UnitKind>
     ensures { result ≡ half_kind kind answer.now }
 {
@@ -51,7 +51,7 @@ fn add_half<A: Answers>(
     }
 }
 
-/// The other halves of these units.
+/// The other halves of these units, as far as they are known.
 pub(crate) fn halves_of<A: Answers>(
     alloc: Global,
     own: &UnitKey,

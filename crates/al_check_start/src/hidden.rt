@@ -42,7 +42,7 @@ fn add_names(
     Ok(())
 }
 
-/// With the private types that a unit's visible part declares.
+/// Adds the private types that a unit's visible part declares.
 fn add_unit<A: Answers>(
     alloc: Global,
     unit: &UnitKey,
@@ -75,7 +75,7 @@ fn add_units<A: Answers>(
     Ok(())
 }
 
-/// The private types of the ancestors of the declaration of that name.
+/// The private types of the ancestors of the declaration with this name.
 fn of_ancestors<A: Answers>(
     alloc: Global,
     name: &[u8],
@@ -90,7 +90,7 @@ fn of_ancestors<A: Answers>(
     Ok(hidden)
 }
 
-/// Of a declaration the private types of its ancestors, whose full views its visible part may see and doesn't tell (ARM 7.3(5), 10.1.1(12)).
+/// For a declaration, the private types of its ancestors: its visible part may see their full views, and doesn't show them (ARM 7.3(5), 10.1.1(12)).
 pub(crate) fn hidden_at<A: Answers>(
     alloc: Global,
     own: &OwnText,

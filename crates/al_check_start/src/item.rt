@@ -1,4 +1,4 @@
-// What a library item is by its text.
+// Properties of a library item that its own source shows.
 ghost use Rattle.std.specs.Prelude.{◌≡◌};
 ghost use Rattle.al_unit_header.specs.Units.{designator, is_private, item_name};
 ghost use Rattle.al_tree.specs.DeclarationViews.{compound_model, specification_model};
@@ -20,7 +20,7 @@ pub(crate) fn is_package_item(item: &LibraryItem) -> bool
     }
 }
 
-/// Whether it is declared with the word private (ARM 10.1.1(12)).
+/// Whether it is declared with the reserved word `private` (ARM 10.1.1(12)).
 pub(crate) fn is_private(item: &LibraryItem) -> bool
     ensures { result ≡ is_private (library_item_model item.now) }
 {

@@ -1,4 +1,4 @@
-// The units that a unit knows once it has asked the units round it.
+// The units that a unit knows once it has asked the units that enclose it.
 ghost use Rattle.std.specs.Prelude.{◌≡◌, ◌∷◌, [], ◌++◌, length, IfOk, OnOk, List, Some};
 ghost use Rattle.std.specs.List.{flat_map};
 ghost use Rattle.std.specs.Option.{option_map, option_copied};
@@ -21,7 +21,7 @@ use al_query::{Answers, Recorder};
 use al_unit_graph::{Header, Mention, parent_of};
 use std::alloc::Global;
 
-/// These units and those after them.
+/// The first list of units, then the second.
 #[tactic(auto, using(std::proofs::lemmas::Grind::common_steps))]
 fn joined(units: Vec<UnitKey>, more: Vec<UnitKey>) -> Result<Vec<UnitKey>, NoMemory>
     ensures { IfOk result (λ all. all.items ≡ units.items ++ more.items) }
@@ -32,7 +32,7 @@ fn joined(units: Vec<UnitKey>, more: Vec<UnitKey>) -> Result<Vec<UnitKey>, NoMem
     Ok(units)
 }
 
-/// These units, those that are mentioned, and the halves of either.
+/// The four lists of units in one: enclosing units, mentioned ones, and the halves of either.
 fn all_joined(
     units: Vec<UnitKey>,
     mentioned: Vec<UnitKey>,
@@ -61,7 +61,7 @@ fn parent_unit(alloc: Global, name: &[u8]) -> Result<Option<UnitKey>, NoMemory>
     }
 }
 
-/// The units round a library unit: the declaration of a body, and the ancestors.
+/// The units that enclose a library unit: for a body its declaration, and the ancestors.
 fn round_library_unit<A: Answers>(
     alloc: Global,
     own: &UnitKey,
@@ -83,7 +83,7 @@ fn round_library_unit<A: Answers>(
     Ok(units)
 }
 
-/// The units round a subunit: the bodies round it, and the ancestors of the library unit.
+/// The units that enclose a subunit: the bodies in which it is, and the ancestors of the library unit.
 fn round_subunit<A: Answers>(
     alloc: Global,
     own: &UnitKey,
@@ -102,7 +102,7 @@ fn round_subunit<A: Answers>(
     Ok(units)
 }
 
-/// The units round a unit.
+/// The units that enclose a unit.
 pub(crate) fn units_round<A: Answers>(
     alloc: Global,
     own: &UnitKey,
@@ -146,7 +146,7 @@ pub(crate) fn with_halves<A: Answers>(
     Ok(found)
 }
 
-/// The units with those that their with clauses mention, and with those that the unit's own mention and the other halves of all these.
+/// These units, then those that their with clauses mention, and then the halves of those that these and the unit's own with clauses mention.
 fn with_mentions<A: Answers>(
     alloc: Global,
     own: &UnitKey,
@@ -168,8 +168,11 @@ fn with_mentions<A: Answers>(
     Ok(found)
 }
 
-/// The units that a unit may ask: those that its text names, the units round it, and those that are mentioned there (ARM 10.1.1, 10.1.2,
-/// 10.1.3). All of them are known then.
+/// The units that a unit may ask: those that its own source names, those that enclose it, and those that are mentioned there (ARM 10.1.1, 10.1.2,
+/// 10.1.3). Each is named by the unit itself or by a recorded answer.
+///
+/// # Errors
+/// `NoMemory` if the allocator refuses memory.
 #[tactic(auto, unfolding(crate::specs::Starts::units_known))]
 pub fn units_known<A: Answers>(
     alloc: Global,

@@ -1,5 +1,10 @@
-//! How the check of a unit begins: what its text says of its place, the place at its start, what waits there, and whether its name is
-//! taken (ARM 10.1, 10.2).
+//! How the check of a unit begins, and the walk over it (ARM 10.1, 10.2).
+//!
+//! - `unit` gives the start of a unit: its header (`item`, `names`), what it completes (`completed`, `stub`), the place at its start (`place`), what
+//!   waits for completion there (`waiting`), and the private types that its visible part hides (`hidden`); or E301 if its name is taken (`child`).
+//! - `known` gives the units that a unit may ask: those that it names (`named`), those that enclose it (`outward`), what with clauses mention
+//!   (`mentions`), and the other halves of these (`half`). `private_names` gives the private types whose full views it may see.
+//! - `walk` goes over the unit's item, with an analyzer for declarations and statements.
 #![tactic(auto)]
 
 mod child;

@@ -1,4 +1,4 @@
-// The units that a text names.
+// The units that the source of a unit names.
 ghost use Rattle.std.specs.Prelude.{◌≡◌, ◌∷◌, [], ◌++◌, map, IfOk, OnOk};
 ghost use Rattle.std.specs.List.{flat_map};
 ghost use Rattle.std.specs.Option.{option_map, option_map_or};
@@ -63,7 +63,7 @@ fn add_parent(alloc: Global, name: &[u8], units: &mut Vec<UnitKey>) -> Result<()
     }
 }
 
-/// Adds what may be the parent body of a subunit: a body, or a subunit.
+/// Adds both units that may be the parent body of a subunit: the body and the subunit with that name.
 fn add_parent_bodies(
     alloc: Global,
     parent: &Mention,
@@ -93,7 +93,7 @@ fn add_own_names(alloc: Global, header: &Header, units: &mut Vec<UnitKey>) -> Re
     }
 }
 
-/// Adds the units that these mentions name, each after its ancestors.
+/// Adds the units that these with clauses name, each after its ancestors.
 fn add_mentioned(
     alloc: Global,
     mentions: &[Mention],
@@ -116,7 +116,7 @@ pub(crate) fn own_mentions(alloc: Global, header: &Header) -> Result<Vec<UnitKey
     Ok(units)
 }
 
-/// The units that a text names.
+/// The units that the source of a unit names.
 #[tactic(auto, unfolding(al_query_outcome::specs::ReadsLaw::named_by))]
 pub(crate) fn named_units(alloc: Global, header: &Header) -> Result<Vec<UnitKey>, NoMemory>
     ensures { IfOk result (λ units. units.items ≡ named_by (header_model header.now)) }

@@ -7,7 +7,7 @@ use al_query_outcome::last_of;
 use al_view::{Symbol, copied_unit};
 use std::alloc::Global;
 
-/// A unit's own symbol, where it completes nothing.
+/// A unit's own symbol, if it completes nothing.
 pub(crate) fn plain_symbol(alloc: Global, unit: &UnitKey) -> Result<Symbol, NoMemory>
     ensures { IfOk result (λ symbol. symbol ≡ plain_symbol unit.now) }
 {

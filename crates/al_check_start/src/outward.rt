@@ -1,4 +1,4 @@
-// The units round a unit, outward.
+// The units that enclose a unit, from the inside out.
 ghost use Rattle.std.specs.Prelude.{◌≡◌, ◌∷◌, [], true, IfOk, OnOk, List};
 ghost use Rattle.al_base.specs.declared.unit_key.UnitKey.{UnitKey};
 ghost use Rattle.al_query.specs.Answers.{parent_of};
@@ -15,7 +15,7 @@ use al_query::{Answers, Property, Recorder};
 use al_view::copied_unit;
 use std::alloc::Global;
 
-/// The parent of a unit, as it answers.
+/// The parent of a unit, by its own answer.
 fn parent_at<A: Answers>(
     alloc: Global,
     own: &UnitKey,
@@ -35,7 +35,7 @@ fn parent_at<A: Answers>(
     }
 }
 
-/// The units that are reached from one by their parents, itself first, so many at most.
+/// The units on the way from `first` through the parents, itself first: at most `most` of them.
 pub(crate) fn outward_from<A: Answers>(
     alloc: Global,
     own: &UnitKey,
@@ -61,7 +61,7 @@ pub(crate) fn outward_from<A: Answers>(
     Ok(units)
 }
 
-/// In which body a subunit's stub stands, by the name of that body: the library body, or else the subunit.
+/// The body in which a subunit's stub is, by the name of that body: the library body, or else the subunit.
 pub(crate) fn parent_body_of<A: Answers>(
     alloc: Global,
     own: &UnitKey,
@@ -85,7 +85,7 @@ pub(crate) fn parent_body_of<A: Answers>(
     }
 }
 
-/// The unit of that name and kind.
+/// The unit with this name and kind.
 fn unit_named(alloc: Global, name: &[u8], kind: UnitKind) -> Result<UnitKey, NoMemory>
     ensures { IfOk result (λ unit. unit ≡ key name.now kind) }
 {

@@ -1,4 +1,4 @@
-// The place at the start of a unit's text.
+// The place at the start of a unit.
 ghost use Rattle.std.specs.Prelude.{◌≡◌, [], IfOk, OnOk};
 ghost use Rattle.al_query.specs.Reads.{FromAnswers};
 ghost use Rattle.al_tree.specs.UnitViews.{library_item_model};
@@ -15,7 +15,7 @@ use al_tree::LibraryItem;
 use al_view::{Seq, Symbol, View, ViewKind, copied_unit};
 use std::alloc::Global;
 
-/// The symbol of the package or subprogram with that view, if there is one; else the unit's own.
+/// The symbol of the package or subprogram with this view, if there is one; else the unit's own symbol.
 fn symbol_of(alloc: Global, unit: &UnitKey, view: &Option<View>) -> Result<Symbol, NoMemory>
     ensures { IfOk result (λ symbol. symbol ≡ symbol_of unit.now view.now) }
 {
@@ -29,7 +29,7 @@ fn symbol_of(alloc: Global, unit: &UnitKey, view: &Option<View>) -> Result<Symbo
     }
 }
 
-/// What a unit's text says of its place.
+/// A unit's own header: what its source says of its place.
 pub(crate) fn own_text(
     alloc: Global,
     unit: &UnitKey,
@@ -54,7 +54,7 @@ pub(crate) fn own_text(
     })
 }
 
-/// A library package is seen in its own declaration.
+/// The view under which a library package is visible inside itself.
 pub(crate) fn own_view(
     alloc: Global,
     unit: &UnitKey,
@@ -74,7 +74,7 @@ pub(crate) fn own_view(
     }
 }
 
-/// The regions round a unit's start, and the units that are mentioned there; the packages among these are added.
+/// The regions that enclose a unit's start, and the units that are mentioned there. Packages among these are added to `packages`.
 pub(crate) fn place_at<A: Answers>(
     alloc: Global,
     own: &OwnText,

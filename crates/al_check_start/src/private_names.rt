@@ -1,4 +1,4 @@
-// The private types of the units round a unit.
+// The private types of the units that enclose a unit.
 ghost use Rattle.std.specs.Prelude.{◌≡◌, ◌∷◌, [], ◌++◌, IfOk, OnOk};
 ghost use Rattle.std.specs.List.{flat_map};
 ghost use Rattle.al_query.specs.Asked.{AsksOf, by_property};
@@ -66,7 +66,10 @@ fn names_of_each<A: Answers>(
     Ok(names)
 }
 
-/// The private types whose full views a unit may see: those of the units round it (ARM 7.3, 8.2). An answer has told each of them then.
+/// The private types whose full views a unit may see: those of the units that enclose it (ARM 7.3, 8.2). Each name is in a recorded answer.
+///
+/// # Errors
+/// `NoMemory` if the allocator refuses memory.
 #[tactic(auto, unfolding(crate::specs::PrivateNames::names_known))]
 pub fn names_known<A: Answers>(
     alloc: Global,

@@ -1,4 +1,4 @@
-// A question of another unit.
+// Questions for a property of another unit.
 ghost use Rattle.std.specs.Prelude.{◌≡◌, ◌∷◌, [], true, false, List, IfOk, OnOk};
 ghost use Rattle.al_base.specs.declared.unit_key.UnitKey.{UnitKey};
 ghost use Rattle.al_view.specs.Symbols.{same_unit};
@@ -15,7 +15,7 @@ use al_query::{Answer, AnswerKind, Answers, Property, Query, Recorder};
 use al_view::{copied_unit, is_unit};
 use std::alloc::Global;
 
-/// What another unit answers to the question for a property; a unit doesn't ask itself.
+/// The answer of another unit to the question for a property. If `own` is that unit itself, it isn't asked.
 pub(crate) fn ask_another<A: Answers>(
     alloc: Global,
     own: &UnitKey,

@@ -1,4 +1,4 @@
-// Where the stub of a subunit stands (ARM 10.1.3).
+// The body in which the stub of a subunit is (ARM 10.1.3).
 ghost use Rattle.std.specs.Prelude.{◌≡◌, ◌∷◌, [], ◌++◌, codes, Some, IfOk, OnOk, if◌then◌else◌};
 ghost use Rattle.std.specs.Option.{option_copied};
 ghost use Rattle.al_query_outcome.specs.ReadsLaw.{subunit};
@@ -20,7 +20,7 @@ use al_scope_context::view_of;
 use al_view::{Part, Seq, View, copied_unit};
 use std::alloc::Global;
 
-/// The unit of that name: a body, or a subunit.
+/// The unit with this name: a body, or a subunit.
 fn named(alloc: Global, name: &[u8], is_body: bool) -> Result<UnitKey, NoMemory>
     ensures { IfOk result (λ unit. unit ≡ (if is_body then body name.now else subunit name.now)) }
 {
@@ -33,7 +33,7 @@ fn named(alloc: Global, name: &[u8], is_body: bool) -> Result<UnitKey, NoMemory>
     Ok(UnitKey { name, kind })
 }
 
-/// The body of that name, or else the subunit.
+/// The body with this name if there is one, or else the subunit.
 pub(crate) fn body_named<A: Answers>(
     alloc: Global,
     name: &[u8],
@@ -47,7 +47,7 @@ pub(crate) fn body_named<A: Answers>(
     Ok(unit)
 }
 
-/// The unit once more, if there is one.
+/// A copy of the unit, if there is one.
 fn copied(alloc: Global, unit: Option<&UnitKey>) -> Result<Option<UnitKey>, NoMemory>
     ensures { IfOk result (λ copy. copy ≡ option_copied unit.entry) }
 {
@@ -57,7 +57,7 @@ fn copied(alloc: Global, unit: Option<&UnitKey>) -> Result<Option<UnitKey>, NoMe
     }
 }
 
-/// The parent of a unit, as it answers.
+/// The parent of a unit, by its own answer.
 fn parent_at<A: Answers>(
     alloc: Global,
     unit: &UnitKey,
@@ -81,7 +81,7 @@ fn is_subunit(unit: &UnitKey) -> bool
     matches!(unit.kind, UnitKind::Sub)
 }
 
-/// In which body the stub of a subunit stands; a library body has none.
+/// The body in which the stub of a subunit is. A library body has none.
 fn next_body<A: Answers>(
     alloc: Global,
     unit: &UnitKey,
@@ -96,7 +96,7 @@ fn next_body<A: Answers>(
     Ok(None)
 }
 
-/// What stands before the stub of that name in a body.
+/// What is declared before the stub with this name in a body.
 fn stub_in(alloc: Global, unit: &UnitKey, stub: &[u8]) -> Result<UnitPart, NoMemory>
     ensures { IfOk result (λ part. part ≡ part_of unit.now (Stub stub.now)) }
 {
@@ -106,7 +106,7 @@ fn stub_in(alloc: Global, unit: &UnitKey, stub: &[u8]) -> Result<UnitPart, NoMem
     Ok(UnitPart { unit, part })
 }
 
-/// One more stub, of that name in this body, and in which body this one's own stub stands, whose name takes the place of that one.
+/// Adds the stub with this name in this body. The name becomes that of this body, and the result is the body in which its own stub is.
 fn outward<A: Answers>(
     alloc: Global,
     unit: &UnitKey,
@@ -126,7 +126,7 @@ fn outward<A: Answers>(
     Ok(next)
 }
 
-/// The stub of that name, which stands in this body, and those round it, so many at most: each after those inside it.
+/// Adds the stub with this name in this body, and the stubs that enclose it, from the inside out: at most `most` of them.
 fn add_stubs<A: Answers>(
     alloc: Global,
     stub: &mut Name,
@@ -150,7 +150,7 @@ fn add_stubs<A: Answers>(
     Ok(())
 }
 
-/// The stubs round a subunit of that name, whose own stub stands in this body, the outermost first, so many at most.
+/// The stubs that enclose the subunit with this name, whose own stub is in this body, outermost first: at most `most` of them.
 fn stubs_in<A: Answers>(
     alloc: Global,
     name: &[u8],
@@ -168,7 +168,7 @@ fn stubs_in<A: Answers>(
     Ok(Seq::new(parts))
 }
 
-/// The stubs round a subunit of that name, the outermost first.
+/// The stubs that enclose the subunit with this name, outermost first.
 pub(crate) fn stubs_round<A: Answers>(
     alloc: Global,
     name: &[u8],
@@ -183,7 +183,7 @@ pub(crate) fn stubs_round<A: Answers>(
     Ok(stubs)
 }
 
-/// The first of some views.
+/// The first of these views, if any.
 fn first_view(views: &[View]) -> Result<Option<View>, NoMemory>
     ensures { IfOk result (λ view. view ≡ first_view views.now) }
 {
@@ -193,7 +193,7 @@ fn first_view(views: &[View]) -> Result<Option<View>, NoMemory>
     }
 }
 
-/// The question for the subprogram that the stub of a unit of that name stands for.
+/// The question for the subprogram whose body a stub with this name replaces.
 fn stub_question(alloc: Global, unit: UnitKey, name: &[u8]) -> Result<Query, NoMemory>
     ensures { IfOk result (λ query. query ≡ Named unit (Stub (last_of name.now)) (codes "separate")) }
 {
@@ -202,7 +202,7 @@ fn stub_question(alloc: Global, unit: UnitKey, name: &[u8]) -> Result<Query, NoM
     Ok(Query::Named { unit, part, name })
 }
 
-/// The subprogram that the stub of a subunit stands for.
+/// The subprogram whose body the stub of a subunit replaces.
 pub(crate) fn stub_view<A: Answers>(
     alloc: Global,
     name: &[u8],

@@ -20,20 +20,21 @@ use al_tree::{CompilationUnit, LibraryItem};
 use al_view::{Seq, View};
 use std::alloc::Global;
 
-/// Where the check of a unit begins.
+/// The start of the check of a unit.
 pub struct UnitStart {
-    /// What its text says of its place.
+    /// The unit's own header: what its source says of its place.
     pub own: OwnText,
-    /// The regions round its start, and the units that are mentioned there.
+    /// The regions that enclose its start, and the units that are mentioned there.
     pub scope: Scope,
-    /// The packages among these.
+    /// The packages among the units that are mentioned.
     pub packages: Seq<UnitKey>,
+    /// The words, objects and flags that are taken before its start.
     pub progress: Progress,
-    /// Of a package body what its declaration leaves to it, of another body what it completes itself.
+    /// What waits for completion: for a package body what its declaration leaves to it, for another body what it completes itself.
     pub uncompleted: Uncompleted,
-    /// The declaration of a library unit's parent; the parent body of a subunit.
+    /// The declaration of a library unit's parent, or the parent body of a subunit.
     pub parent: Option<UnitKey>,
-    /// The own view of the declaration that a library body completes, or the subprogram of a subunit's stub.
+    /// The own view of the declaration that a library body completes, or the subprogram whose body a subunit's stub replaces.
     pub view: Option<View>,
     /// The private types that its visible part hides.
     pub hidden: Seq<PrivateName>,
@@ -55,8 +56,8 @@ impl Drop for UnitStart {
 }
 
 impl UnitStart {
-    /// What its text says and mentions, with what its visible part hides; where the check stands; its parent and the view that it completes. It takes no
-    /// memory.
+    /// The fields in three groups: the header, the packages and the hidden private types; the state at the start; the parent and the view that the
+    /// unit completes. It takes no memory.
     pub fn into_parts(
         self,
     ) -> (
@@ -86,7 +87,7 @@ impl UnitStart {
     }
 }
 
-/// What waits at the place of a unit, and the private types that its visible part hides.
+/// What waits for completion at the start of a unit, and the private types that its visible part hides.
 fn waiting_after<A: Answers>(
     alloc: Global,
     unit: &UnitKey,
@@ -109,7 +110,7 @@ fn waiting_after<A: Answers>(
     }
 }
 
-/// Where the check of a unit begins that completes this, after this context clause.
+/// The start of the check of a unit that completes `completed`, after this context clause.
 fn start_with<A: Answers>(
     alloc: Global,
     unit: &UnitKey,
@@ -144,7 +145,7 @@ fn start_with<A: Answers>(
     })
 }
 
-/// Where the check of a unit begins after this context clause, or E301 at its name.
+/// The start of the check of a unit after this context clause, or E301 at its name.
 fn start_after<A: Answers>(
     alloc: Global,
     unit: &UnitKey,
@@ -162,8 +163,11 @@ fn start_after<A: Answers>(
     Ok(checked)
 }
 
-/// How the check of a unit begins: its context clause is read, then its place is made, and what waits there; the first fault of the context
-/// clause, or else E301 at a name that the parent declares too (ARM 8.3(26), 10.1.1, 10.1.2).
+/// The start of the check of a unit: its context clause is judged, then its place is made, and what waits for completion there. Else the first error
+/// of the context clause, or else E301 at a name that the parent declares too (ARM 8.3(26), 10.1.1, 10.1.2).
+///
+/// # Errors
+/// `NoMemory` if the allocator refuses memory.
 pub fn unit_at<A: Answers>(
     alloc: Global,
     unit: &UnitKey,

@@ -1,4 +1,4 @@
-// What waits at the start of a unit, and how far its check has come there.
+// What waits for completion at the start of a unit, and what is taken before it.
 ghost use Rattle.std.specs.Prelude.{◌≡◌, IfOk};
 ghost use Rattle.al_scope.specs.Seen.{completions_seen_at};
 ghost use Rattle.al_query.specs.Answers.{completions_of, declaration};
@@ -30,7 +30,7 @@ fn completion(alloc: Global, unit: &UnitKey, view: &Option<View>) -> Result<Unco
     Uncompleted::of(alloc, one.as_slice())
 }
 
-/// The question what the declaration of that name leaves to its body.
+/// The question what the declaration with this name leaves to its body.
 fn question(alloc: Global, name: &[u8]) -> Result<Query, NoMemory>
     ensures { IfOk result (λ query. query ≡ Of (declaration name.now) Completions) }
 {
@@ -56,7 +56,7 @@ fn left<A: Answers>(
     Ok(uncompleted)
 }
 
-/// What waits at the start of a unit that completes this.
+/// What waits for completion at the start of a unit. `view` is what the unit completes.
 pub(crate) fn waiting<A: Answers>(
     alloc: Global,
     unit: &UnitKey,
@@ -76,7 +76,7 @@ pub(crate) fn waiting<A: Answers>(
     }
 }
 
-/// The same as the place of the unit sees it.
+/// What waits for completion at the start of a unit, with views as the place of the unit sees them.
 pub(crate) fn visible_waiting<A: Answers>(
     alloc: Global,
     unit: &UnitKey,
@@ -93,7 +93,7 @@ pub(crate) fn visible_waiting<A: Answers>(
     Uncompleted::of(alloc, seen.as_slice())
 }
 
-/// In how many bodies a subprogram is declared.
+/// The number of bodies that enclose a subprogram's declaration.
 fn call_depth(call: &CallKind) -> u32
     ensures { result ≡ call_depth call.now }
 {
@@ -103,7 +103,7 @@ fn call_depth(call: &CallKind) -> u32
     }
 }
 
-/// In how many bodies a unit stands, where it completes this: only a subunit stands in one.
+/// The number of bodies that enclose a unit. Only a subunit is inside a body.
 fn depth_of(item: &LibraryItem, view: &Option<View>) -> u32
     ensures { result ≡ depth_of (library_item_model item.now) view.now }
 {
@@ -116,7 +116,7 @@ fn depth_of(item: &LibraryItem, view: &Option<View>) -> u32
     }
 }
 
-/// The declarations of a unit's text that stand at its start: a library package's own name.
+/// The declarations of a unit that are there at its start: a library package's own name.
 fn homonyms_at(alloc: Global, unit: &UnitKey, item: &LibraryItem) -> Result<Homonyms, NoMemory>
     ensures { IfOk result (λ homonyms. homonyms ≡ homonyms_at unit.now (library_item_model item.now)) }
 {
@@ -133,7 +133,7 @@ fn homonyms_at(alloc: Global, unit: &UnitKey, item: &LibraryItem) -> Result<Homo
     }
 }
 
-/// How far the check has come at the start.
+/// The words, objects and flags that are taken before a unit's start.
 pub(crate) fn progress_at(
     alloc: Global,
     unit: &UnitKey,

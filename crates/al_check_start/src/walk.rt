@@ -24,14 +24,14 @@ use al_tree::{
 };
 use std::alloc::Global;
 
-/// What return statements stand in, in the statements of a package's body.
+/// The context of return statements in the statements of a package's body.
 const PACKAGE: ReturnContext = ReturnContext {
     body: EnclosingBody::Package,
     words: 0,
     bounds: None,
 };
 
-/// A declaration of a package.
+/// Checks a declaration of a package.
 fn check_declaration<R: Analyzer>(
     analyzer: &mut R,
     alloc: Global,
@@ -50,7 +50,7 @@ fn check_declaration<R: Analyzer>(
     }
 }
 
-/// Declarations of a package, one after another until the list of faults has ended.
+/// Checks declarations of a package, one after another until the list of errors has ended.
 fn check_declarations<R: Analyzer>(
     analyzer: &mut R,
     alloc: Global,
@@ -70,7 +70,7 @@ fn check_declarations<R: Analyzer>(
     Ok(())
 }
 
-/// The private part of a package, from which on the private parts of the ancestors are seen (ARM 8.2(5)).
+/// Checks the private part of a package. From its begin on, the private parts of the ancestors are visible (ARM 8.2(5)).
 fn check_private<R: Analyzer>(
     analyzer: &mut R,
     alloc: Global,
@@ -92,7 +92,7 @@ fn check_private<R: Analyzer>(
     }
 }
 
-/// Both parts of a package.
+/// Checks both parts of a package.
 fn check_parts<R: Analyzer>(
     analyzer: &mut R,
     alloc: Global,
@@ -109,7 +109,7 @@ fn check_parts<R: Analyzer>(
     }
 }
 
-/// With the fault of the name at the end of a unit.
+/// Adds the error in the name at the end of a unit, if there is one.
 fn ended(
     alloc: Global,
     inside: WalkedInside,
@@ -128,7 +128,7 @@ fn ended(
     }
 }
 
-/// Both parts of a package up to its end.
+/// Checks both parts of a package, and its end.
 fn completed_parts<R: Analyzer>(
     analyzer: &mut R,
     alloc: Global,
@@ -142,7 +142,7 @@ fn completed_parts<R: Analyzer>(
     Ok(part)
 }
 
-/// A package (ARM 7.1): what waits at its end is left to its body.
+/// Checks a package (ARM 7.1). What waits for completion at its end is left to its body.
 fn check_package<R: Analyzer>(
     analyzer: &mut R,
     alloc: Global,
@@ -156,7 +156,7 @@ fn check_package<R: Analyzer>(
     ended(alloc, inside, &declaration.name, &declaration.end)
 }
 
-/// The statements of a package's body after its part, in which there is no return (ARM 6.5(5)).
+/// Checks the statements of a package's body after its declarative part. No return statement is allowed among them (ARM 6.5(5)).
 fn check_package_statements<R: Analyzer>(
     analyzer: &mut R,
     alloc: Global,
@@ -173,7 +173,7 @@ fn check_package_statements<R: Analyzer>(
     check_after(analyzer, &mut enclosing, &statements.statements, part)
 }
 
-/// The statements of a package's body, or its end where it has none: E302 there where a declaration still waits.
+/// Checks the statements of a package's body, or its end if it has no statements. E302 is there if a declaration still waits for completion.
 fn check_package_inside<R: Analyzer>(
     analyzer: &mut R,
     alloc: Global,
@@ -194,7 +194,7 @@ fn check_package_inside<R: Analyzer>(
     }
 }
 
-/// The body of a package (ARM 7.2).
+/// Checks the body of a package (ARM 7.2).
 fn check_package_body<R: Analyzer>(
     analyzer: &mut R,
     alloc: Global,
@@ -209,7 +209,10 @@ fn check_package_body<R: Analyzer>(
     ended(alloc, inside, &body.name, &body.end)
 }
 
-/// The item of a compilation unit, after its context clause (ARM 10.1.1, 10.1.3).
+/// Checks the item of a compilation unit, after its context clause (ARM 10.1.1, 10.1.3).
+///
+/// # Errors
+/// `NoMemory` if the allocator refuses memory.
 pub fn check_unit<R: Analyzer>(
     analyzer: &mut R,
     alloc: Global,

@@ -1,4 +1,4 @@
--- Pieces whose jumps lead to where one of their instructions begins, or to their end.
+-- Pieces whose jumps lead to the beginning of one of their instructions, or to their end.
 use Rattle.std.proofs.Common.{◌≡◌, ℕ, ◌+◌, ◌⊎◌, ℤ, pos, neg_ℤ, ◌+ℤ◌, List, [], ◌∷◌, ◌++◌, length, Option, Some, None, IfSome, refl, sym, ap, subst, ◌∙◌, arith, inl, inr, length-append}
 use Rattle.std.proofs.lemmas.Int.{ints}
 use Rattle.al_view.specs.declared.link.LinkSymbol.{LinkSymbol}
@@ -76,7 +76,7 @@ bound_end from (i ∷ is) =
     let e : (from + size_of i) + bytes_in is ≡ from + bytes_in (i ∷ is) = omega (arith, bytes_cons i is) in
     inr (subst (λ (n : ℕ). BoundAt (from + size_of i) is (pos n)) e (bound_end (from + size_of i) is))
 
--- where more instructions follow, one begins there
+-- if more instructions follow, one begins there
 bound_begins : (from : ℕ) (is js : List Instr) (place : ℤ) → BeginsAt (from + bytes_in is) js (pos (from + bytes_in is)) → BoundAt from is place → BeginsAt from (is ++ js) place
 bound_begins from [] js place front h =
     let e : from + 0 ≡ from = omega arith in
@@ -111,12 +111,12 @@ leads_append P from (i ∷ is) js h k =
 
 -- ---- pieces
 
--- each jump leads to where an instruction of them begins, or to their end, and no symbol stands among them
+-- each jump leads to the beginning of one of their instructions, or to their end, and no symbol is defined among them
 pub record Bounded (ps : List Piece) : Type 0 where
   pub lead : (from : ℕ) → JumpsLead (BoundAt from (instrs ps)) from (instrs ps)
   pub quiet : (from : ℕ) → defines_from from ps ≡ []
 
--- each jump leads to an instruction of them, and there is one; no symbol stands among them
+-- each jump leads to an instruction of them, and there is one; no symbol is defined among them
 pub record Inner (ps : List Piece) : Type 0 where
   pub lead : (from : ℕ) → JumpsLead (BeginsAt from (instrs ps)) from (instrs ps)
   pub front : (from : ℕ) → BeginsAt from (instrs ps) (pos from)
@@ -129,7 +129,7 @@ both_quiet p q hp hq from =
 pub nothing : Bounded []
 nothing = record { lead = λ from. tt; quiet = λ from. refl }
 
--- where the code of a line begins
+-- the place at which the code of a line begins
 pub line_here : {n : ℕ} → Bounded (Line n ∷ [])
 line_here = record { lead = λ from. tt; quiet = λ from. refl }
 
@@ -183,7 +183,7 @@ ending {p = p} {q = q} hp hq = record {
 jump_ends : (from : ℕ) (w : JumpCondition) (d : ℤ) → from + size_of (jump_of w d) ≡ from + 5
 jump_ends from w d = omega (arith, jump_size w d)
 
--- one jump of a construct that ends, where the rest has so many bytes
+-- one jump of a construct that ends, if the rest has so many bytes
 jump_closed : (P : ℤ → Type 0) (from n : ℕ) (w : JumpCondition) (t : Target) (b : Option Target) (ps : List Piece) → P (pos ((from + 5) + n))
     → IfSome (jump_in (jump_of w (pos 0))) (λ d. P (pos (from + size_of (jump_of w (pos 0))) +ℤ d)) → JumpsLead P (from + 5) (instrs ps) → JumpsLead P from (instrs (over_or w b n ∷ ps))
 jump_closed P from n w t None ps end head rest =
@@ -232,7 +232,7 @@ end_of c {ps = ps} h = record {
   quiet = λ from. noted_closed definition_at (λ n w z. refl) (λ n w t. refl) c from ps ∙ h.quiet from;
 }
 
--- again and again: the last jump leads to the front
+-- a repetition: the last jump leads to the beginning
 pub around : {ps : List Piece} → Bounded ps → Bounded (repeated ps)
 unfolding repeated
 around {ps = ps} h = record {

@@ -17,7 +17,7 @@ use Rattle.al_code.specs.Written.{Buffer, grown, written, with_jump, all_filled,
 use Rattle.al_code.proofs.Writing.{written_nothing, written_append, grown_none, written_none, written_within, written_beyond, size_cons}
 use Rattle.al_code.proofs.Jumps.{jump_filled, jump_size}
 
--- one piece, where the construct ends so many bytes after it
+-- one piece, if the construct ends so many bytes after it
 abbrev closed_piece : Construct → ℕ → Piece → Piece
 closed_piece c after (Whole i) = Whole i
 closed_piece c after (Using i symbol) = Using i symbol
@@ -49,7 +49,7 @@ closed_size c (x ∷ p) =
     ap size (closed-cons c x p) ∙ size_cons (closed_piece c (size p) x) (closed c p)
     ∙ omega (arith, piece_closed c (size p) x, closed_size c p) ∙ sym (size_cons x p)
 
--- what is noted doesn't change, where nothing is noted of jumps
+-- what is noted doesn't change, if nothing is noted of jumps
 module _ {X : Type 0} (note : ℕ → Piece → List X) (of_whole : (from : ℕ) (w : JumpCondition) (z : ℤ) → note from (Whole (jump_of w z)) ≡ []) (of_leaving : (from : ℕ) (w : JumpCondition) (t : Target) → note from (Leaving w t) ≡ []) where
   note_closed : (c : Construct) (after from : ℕ) (x : Piece) → note from (closed_piece c after x) ≡ note from x
   note_closed c after from (Whole i) = refl
@@ -96,7 +96,7 @@ leaves_closed c from (x ∷ p) =
     ∙ ap (λ (k : ℕ). leave_at from (closed_piece c (size p) x) ++ leaves_from (from + k) (closed c p)) (sym (piece_closed c (size p) x))
     ∙ ap (λ (ps : List Piece). leaves_from from ps) (sym (closed-cons c x p))
 
--- the one jump, where it leads to the end
+-- the one jump, if it leads to the end
 piece_filled : (c : Construct) (end : ℕ) (front rest : List ℕ) (x : Piece) (ls : List ForwardJump) → end ≡ length front + (piece_size x + length rest)
     → all_filled c end (front ++ (piece_bytes x ++ rest)) (leave_at (length front) x ++ ls) ≡ all_filled c end (front ++ (piece_bytes (closed_piece c (length rest) x) ++ rest)) ls
 piece_filled c end front rest (Whole i) ls is = refl
@@ -175,7 +175,7 @@ closed_steps w w1 w2 first c p at one two = two ∙ ap (λ (v : Option Buffer). 
 pub then_steps : (w w1 w2 : Option Buffer) (p q : List Piece) → w1 ≡ written w p → w2 ≡ written w1 q → w2 ≡ written w (p ++ q)
 then_steps w w1 w2 p q one two = two ∙ ap (λ (v : Option Buffer). written v q) one ∙ written_append w p q
 
--- where code ends that has grown
+-- the place at which code ends that has grown
 written_end : (w : Option Buffer) (p : List Piece) (start : ℕ) → EndsAt w start → IfSome (written w p) (λ b. length b.code ≡ start + size p)
 written_end None p start at = rw (written_none p) tt
 written_end (Some b) [] start at = rw (written_nothing (Some b)) (omega arith)

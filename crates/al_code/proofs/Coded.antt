@@ -118,7 +118,7 @@ or_true false = refl
 whole : {i : Instr} {p : List Piece} → Coded (Whole i ∷ p)
 whole = record { is = refl }
 
--- at the end, and in front
+-- at the end, and at the beginning
 last : (p : List Piece) {q : List Piece} → Coded q → Coded (p ++ q)
 last p {q = q} h = record { is = solid_append p q ∙ ap (λ (b : Bool). solid p || b) h.is ∙ or_true (solid p) }
 

@@ -31,7 +31,7 @@ written_listed more none f g at_none at_more h w now xs i e le =
 pub times_more : (p : List Piece) (w now next : Option Buffer) (n : ℕ) → now ≡ written w (times n p) → next ≡ written now p → next ≡ written w (times (n + 1) p)
 times_more p w now next n one two = then_steps w now next (times n p) p one two ∙ ap (λ (k : ℕ). written w (times k p)) (sym (add-one n))
 
--- what is done where the word on top isn't 0, by the steps of the code
+-- code that runs if the word on top isn't 0, by the steps of the code
 pub guarded_steps : (w w1 w2 w3 : Option Buffer) (first : ℕ) (p : List Piece) → WaitsAt w first → w1 ≡ written w unless_zero → w2 ≡ written w1 p → w3 ≡ ended w2 first construct.Test → w3 ≡ written w (guarded p)
 unfolding guarded
 guarded_steps w w1 w2 w3 first p at one two three = closed_steps w w2 w3 first construct.Test (unless_zero ++ p) at (then_steps w w1 w2 unless_zero p one two) three

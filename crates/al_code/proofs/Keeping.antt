@@ -1,4 +1,4 @@
--- What code keeps while it is written: it is a list of instructions, and a jump stands where one waits.
+-- An invariant of code as it is written: it is a list of instructions, and there is a jump at each place noted.
 use Rattle.std.proofs.Common.{◌≡◌, ℕ, ◌+◌, ◌-◌, ◌<◌, ◌≤◌, Bool, true, false, cond, List, [], ◌∷◌, ◌++◌, length, take, drop, Option, Some, None, refl, sym, ap, subst, ◌∙◌, append_assoc, append-nil, arith, length-append, inl, inr}
 use Rattle.std.specs.Prelude.{ℤ, pos, is_none, FitsSigned, All}
 use Rattle.std.specs.Int.{w32}
@@ -115,7 +115,7 @@ kept_leaving code uses defines leaving w t le k =
       standing = whole.standing;
     }
 
--- with a symbol that stands here
+-- with a symbol that is defined here
 pub kept_begins : (code : List ℕ) (uses : List Relocation) (defines : List Address) (leaving : List ForwardJump) (symbol : LinkSymbol) → IsCodeKind symbol.kind → IsKept code uses defines leaving → IsKept code uses (defines ++ record { symbol = symbol; offset = length code } ∷ []) leaving
 kept_begins code uses defines leaving symbol is k = record {
   parts = k.parts;

@@ -19,7 +19,7 @@ use Rattle.al_code.specs.Statements.{others_code}
 pub written_mapped : {A C : Type 0} (f : C → List Piece) (h : A → C) (w now : Option Buffer) (xs : List A) (i : ℕ) → now ≡ written w (flat_map (λ x. f (h x)) (take i xs)) → length xs ≤ i → now ≡ written w (flat_map f (map h xs))
 written_mapped f h w now xs i e le = written_all (λ x. f (h x)) w now xs i e le ∙ ap (λ (ps : List Piece). written w ps) (sym (flat_map-map f h xs))
 
--- after one more turn, where items are copied
+-- after one more turn, if items are copied
 pub written_copied : {A : Type 0} (f : A → List Piece) (w now next : Option Buffer) (xs : List A) (i : ℕ) (d : A) → now ≡ written w (flat_map f (take i xs)) → next ≡ written now (f (get_or xs i d)) → i < length xs → next ≡ written w (flat_map f (take (i + 1) xs))
 written_copied f w now next xs i d e step less = written_more f w now next xs i (get_or xs i d) e step (get_or_default xs i d (get_or xs i d) less) less
 

@@ -27,7 +27,7 @@ use Rattle.al_code.specs.Images.{word_of}
 use Rattle.al_code.specs.ObjectOf.{data_addresses, object_of, place_address, protected_addresses, region_of, tasks_of}
 use Rattle.al_code.specs.Routines.{unit_code}
 
--- ---- what stands where
+-- ---- the places of symbols
 
 stands_code : (o : CompiledCode) (a : Address) → StandsWithin (length o.code) a → StandsIn o a
 stands_code o a h = at a.symbol.kind h.0 where

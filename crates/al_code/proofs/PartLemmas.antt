@@ -1,4 +1,4 @@
--- The parts of a name with one more at their front, and without it.
+-- The parts of a name with one more at their beginning, and without it.
 use Rattle.std.proofs.Common.{◌≡◌, ℕ, Bool, length, List, [], ◌∷◌, ◌++◌, Option, Some, Box, Global, sym, ap, subst, ◌∙◌}
 use Rattle.std.specs.Option.{option_to_list}
 use Rattle.std.proofs.lemmas.List.{append_assoc, append-nil}

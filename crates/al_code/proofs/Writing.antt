@@ -77,7 +77,7 @@ one_size x = omega (arith, size_cons x [])
 grown_size : (b : Buffer) (p : List Piece) → length (grown b p).code ≡ length b.code + size p
 grown_size b p = length-append b.code (bytes_of p)
 
--- where all fits, the buffer has grown by the pieces
+-- if all fits, the buffer has grown by the pieces
 pub written_within : (b : Buffer) (p : List Piece) → length b.code + size p ≤ 16777216 → written (Some b) p ≡ Some (grown b p)
 unfolding written
 written_within b [] h = ap (λ (c : Buffer). Some c) (sym (grown_none b))
@@ -89,7 +89,7 @@ written_within b (x ∷ p) h =
     ∙ written_within (grown b (x ∷ [])) p (omega arith)
     ∙ ap (λ (c : Buffer). Some c) (grown_append b (x ∷ []) p)
 
--- where not, none is left
+-- if not, none is left
 pub written_beyond : (b : Buffer) (x : Piece) (p : List Piece) → 16777216 < length b.code + size (x ∷ p) → written (Some b) (x ∷ p) ≡ None
 unfolding written
 written_beyond b x [] h = let one = one_size x in piece_beyond b x (omega arith)

@@ -8,7 +8,7 @@ use Rattle.al_code.specs.declared.chain.Sign.TheVariants as signs
 use Rattle.al_view_typed.specs.ExpressionViews.{typed_model}
 use Rattle.al_view_typed.specs.declared.expression.Typed.{Typed, size-Typed}
 
--- the right operand and what its link does, or what decides whether it is computed
+-- a link: the right operand and the operator, or the test whether the right operand is computed
 abbrev pub sign_code : Sign → List Piece → List Piece
 sign_code (signs.Operator operator words) right = right ++ binary_code operator words
 sign_code (signs.ShortCircuit operator) right = short_code operator right
@@ -16,7 +16,7 @@ sign_code (signs.ShortCircuit operator) right = short_code operator right
 abbrev pub joint_code : ℕ → Joint → List Piece
 joint_code depth joint = sign_code joint.sign (value_of depth (typed_model joint.right.now))
 
--- the last link of the text comes first
+-- the last link of the source comes first
 abbrev pub chained_code : ℕ → List Joint → List Piece
 chained_code depth [] = []
 chained_code depth (joint ∷ joints) = chained_code depth joints ++ joint_code depth joint

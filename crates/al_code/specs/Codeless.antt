@@ -1,4 +1,4 @@
--- Values that have no code: those of no components, and of components that have none (ARM 4.3.3, 4.7).
+-- Values that have no code: those without components, and those whose components have none (ARM 4.3.3, 4.7).
 use Rattle.std.specs.Prelude.{ℕ, Bool, true, false, ◌==◌, ◌&&◌, ◌||◌, Option, is_none}
 use Rattle.al_view.specs.declared.types.Bounds.{Bounds}
 use Rattle.al_view_typed.specs.ExpressionTrees.{TypedTree, FormTree, ValueTree, ValuesTree}
@@ -9,7 +9,7 @@ use Rattle.al_view_typed.specs.ExpressionTrees.FormTree.{LiteralForm, NamedForm,
 use Rattle.al_view_typed.specs.declared.label.Conversion.{Conversion}
 use Rattle.al_view_typed.specs.declared.label.Conversion.TheVariants as conversions
 
--- a conversion that is no step to another value
+-- a conversion that leaves its operand's value as it is
 abbrev pub keeps_value : Conversion → Bool
 keeps_value conversions.Succ = false
 keeps_value conversions.Pred = false

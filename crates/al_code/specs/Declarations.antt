@@ -1,4 +1,4 @@
--- The code of declarations where they stand (ARM 3.11).
+-- The code of declarations (ARM 3.11).
 use Rattle.std.specs.Prelude.{ℕ, pos, List, [], ◌∷◌, ◌++◌, Option, Some, None}
 use Rattle.std.specs.List.{flat_map}
 use Rattle.al_view.specs.ViewUses.{link}
@@ -21,7 +21,7 @@ abbrev pub object_code : ℕ → ℕ → Option ValueTree → ObjectPlace → Li
 object_code depth words (Some value) place = checked_code depth value ++ place_code Data depth place ++ of_size sized.Store words
 object_code depth words None place = place_code Data depth place ++ of_size sized.Zero words
 
--- a flag in a frame begins with no (ARM 3.11(10)); one among a unit's words does so by itself
+-- a flag in a frame is false at first (ARM 3.11(10)); one among a unit's words is so without code
 unfoldable pub subprogram_code : ℕ → ObjectPlace → List Piece
 subprogram_code depth (places.Frame d word) = place_code Flag depth (places.Frame d word) ++ of_size sized.Zero 1
 subprogram_code depth (places.Static symbol word) = []

@@ -19,7 +19,7 @@ use Rattle.al_code.specs.ObjectOf.{data_addresses, object_of}
 
 -- ---- instructions and jumps
 
--- an instruction begins at a place, where the first one begins at `from`
+-- an instruction begins at a place, if the first one begins at `from`
 abbrev pub BeginsAt : ℕ → List Instr → ℤ → Type 0
 BeginsAt from [] place = ⊥
 BeginsAt from (i ∷ is) place = (place ≡ pos from) ⊎ BeginsAt (from + size_of i) is place
@@ -51,14 +51,14 @@ abbrev pub kind_symbols : Symbol → BodyKind → List (Option LinkSymbol)
 kind_symbols symbol (kinds.Entry object barrier) = Some (link Gate symbol) ∷ Some (link EntryBody symbol) ∷ []
 kind_symbols symbol _ = Some (link Code symbol) ∷ []
 
--- the routines of a unit: its elaboration, where it has one, goes by no symbol
+-- the routines of a unit: its elaboration, if it has one, has no symbol
 abbrev pub routine_symbols : UnitTree → List (Option LinkSymbol)
 routine_symbols u = option_map_or (λ e. None ∷ []) u.elaboration [] ++ flat_map (λ b. kind_symbols b.symbol b.kind) u.bodies
 
 abbrev pub bytes_in : RoutineCode → List ℕ
 bytes_in r = code_bytes r.code
 
--- each symbol stands where its routine begins, the first one at `from`
+-- each symbol is at the place at which its routine begins, the first one at `from`
 abbrev pub symbol_at : Option LinkSymbol → ℕ → List Address
 symbol_at None from = []
 symbol_at (Some symbol) from = record { symbol = symbol; offset = from } ∷ []
@@ -67,8 +67,8 @@ abbrev pub standing_from : ℕ → List RoutineCode → List Address
 standing_from from [] = []
 standing_from from (r ∷ rs) = symbol_at r.symbol from ++ standing_from (from + length (bytes_in r)) rs
 
--- the code is that of the unit's routines one after the other; each begins where its symbol stands, and before what stands
--- among the unit's words no other symbol does; each jump leads to an instruction of its own routine
+-- the code is that of the unit's routines one after the other; each begins at its symbol's place, and the only other
+-- symbols are those among the unit's words; each jump leads to an instruction of its own routine
 pub record FallsIntoRoutines (u : UnitTree) (o : CompiledCode) : Type 0 where
   pub routines : List RoutineCode
   pub symbols_are : map (λ (r : RoutineCode). r.symbol) routines ≡ routine_symbols u
@@ -76,6 +76,6 @@ pub record FallsIntoRoutines (u : UnitTree) (o : CompiledCode) : Type 0 where
   pub symbols_stand : o.defines ≡ standing_from 0 routines ++ data_addresses u
   pub jumps_stay : All (λ (r : RoutineCode). StaysInside r.code) routines
 
--- so does the code of each unit that has an object
+-- the code of each unit that has an object consists of its routines
 abbrev pub EachFallsIntoRoutines : Type 0
 EachFallsIntoRoutines = (u : UnitTree) (o : CompiledCode) → object_of u ≡ Compiled o → FallsIntoRoutines u o

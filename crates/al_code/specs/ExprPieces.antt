@@ -1,4 +1,4 @@
--- Short codes, of which templates are made.
+-- Short rows of instructions, of which templates are made.
 use Rattle.std.specs.Prelude.{ℕ, zero, suc, ℤ, ◌-◌, List, [], ◌∷◌, ◌++◌, Option, Some, None}
 use Rattle.al_view.specs.ViewUses.{link}
 use Rattle.al_view.specs.declared.link.LinkKind.{LinkKind}
@@ -36,25 +36,25 @@ store_slot word = slot word ++ of_size sized.Store 1
 unfoldable pub load_slot : ℕ → List Piece
 load_slot word = slot word ++ of_size sized.Load 1
 
--- the check against the bounds of a scalar subtype; none of what isn't scalar
+-- the check against the bounds of a scalar subtype; none for a subtype that isn't scalar
 abbrev pub check_code : Option Bounds → List Piece
 check_code None = []
 check_code (Some b) = Whole (instr.Check b.low b.high) ∷ []
 
--- the address of what lies at a place, in a body of so much nesting: of an object or of a flag
+-- the address of an object or of a flag at a place, in a body of nesting depth `depth`
 abbrev pub place_code : LinkKind → ℕ → ObjectPlace → List Piece
 place_code kind depth (places.Frame d word) = Whole (instr.Frame (depth - d) word) ∷ []
 place_code kind depth (places.Static symbol word) = Using (instr.Global word) (link kind symbol) ∷ []
 
--- to the end of the choice that it stands in
+-- a jump to the end of the innermost `if`, `case` or short-circuit form
 abbrev pub join : List Piece
 join = Leaving when.Always target.Join ∷ []
 
--- past what follows where the word on top is 0
+-- a jump past what follows if the word on top is 0
 abbrev pub unless_zero : List Piece
 unless_zero = Leaving when.IfZero target.Next ∷ []
 
--- what is done where the word on top isn't 0:  JumpZ N  p  N:
+-- code that runs if the word on top isn't 0:  JumpZ N  p  N:
 unfoldable pub guarded : List Piece → List Piece
 guarded p = closed construct.Test (unless_zero ++ p)
 

@@ -1,4 +1,4 @@
--- The code of what is put out (ARM A.10.7).
+-- The code of output (ARM A.10.7).
 use Rattle.std.specs.Prelude.{ℕ, zero, suc, min, Bool, true, false, List, [], ◌∷◌, ◌++◌, map, sum_by}
 use Rattle.std.specs.List.{flat_map}
 use Rattle.al_instr.specs.declared.instruction.Instr.TheVariants as instr
@@ -11,17 +11,17 @@ use Rattle.al_code.specs.Pieces.Piece.{Whole}
 use Rattle.al_code.specs.ExprPieces.{of_size, one}
 use Rattle.al_code.specs.Templates.{value_of}
 
--- a count as an operand: no image has room for as many as don't fit
+-- a count as an operand: no image is large enough for one that doesn't fit
 abbrev pub word_of : ℕ → ℕ
 word_of n = min n 4294967295
 
--- the value that is put out as an image
+-- the value whose image is put
 abbrev pub image_code : ℕ → PieceTree → List Piece
 image_code depth (TextPiece bytes) = []
 image_code depth (IntegerImage value) = value_of depth value
 image_code depth (EnumerationImage value names) = value_of depth value
 
--- how many images there are
+-- the number of images
 abbrev pub is_image : PieceTree → ℕ
 is_image (TextPiece bytes) = 0
 is_image (IntegerImage value) = 1
@@ -36,7 +36,7 @@ piece_code above (TextPiece bytes) = Whole (instr.PutText bytes) ∷ []
 piece_code above (IntegerImage value) = of_size sized.PutInteger (word_of above)
 piece_code above (EnumerationImage value names) = Whole (instr.PutName (word_of above) (map printed names)) ∷ []
 
--- the pieces in order: the values of those that follow stand above
+-- the pieces in order: the values of later pieces are above
 abbrev pub pieces_code : List PieceTree → List Piece
 pieces_code [] = []
 pieces_code (p ∷ ps) = piece_code (images ps) p ++ pieces_code ps
@@ -45,7 +45,7 @@ abbrev pub line_code : Bool → List Piece
 line_code true = one plain.NewLine
 line_code false = []
 
--- the values go
+-- the values are dropped
 abbrev pub dropped_code : ℕ → List Piece
 dropped_code zero = []
 dropped_code (suc n) = of_size sized.Drop (word_of (suc n))

@@ -1,4 +1,4 @@
--- What code keeps while it is written.
+-- An invariant of code as it is written.
 use Rattle.std.specs.Prelude.{ℕ, ◌≡◌, ◌≤◌, ◌-◌, List, [], ◌∷◌, length, All, ◌⊎◌}
 use Rattle.al_view.specs.declared.link.LinkKind.{LinkKind}
 use Rattle.al_view.specs.declared.link.LinkKind.TheVariants as kind
@@ -13,12 +13,12 @@ IsJump (Whole (instr.Jump distance)) = Unit {0}
 IsJump (Whole (instr.JumpZero distance)) = Unit {0}
 IsJump _ = ⊥
 
--- a jump stands at a place of the code
+-- a jump is at a place of the code
 abbrev pub JumpAt : List Part → ℕ → Type 0
 JumpAt [] place = ⊥
 JumpAt (p ∷ ps) place = (IsJump p × (place ≡ 0)) ⊎ ((length (part_bytes p) ≤ place) × JumpAt ps (place - length (part_bytes p)))
 
--- where code begins, and no object or flag
+-- the kinds of symbols that are defined in code; objects and flags aren't
 abbrev pub IsCodeKind : LinkKind → Type 0
 IsCodeKind kind.Code = Unit {0}
 IsCodeKind kind.Gate = Unit {0}
@@ -28,8 +28,8 @@ IsCodeKind _ = ⊥
 abbrev pub StandsWithin : ℕ → Address → Type 0
 StandsWithin end a = IsCodeKind a.symbol.kind × (a.offset ≤ end)
 
--- the code is a list of instructions, the uses are the places in it where these use symbols, jumps stand where some wait, and
--- symbols stand within it; it is no longer than that of any image
+-- the code is a list of instructions, the uses are the places in it at which these use symbols, jumps are at the places noted, and symbols are
+-- defined within it; it is no longer than that of any image
 pub record IsKept (code : List ℕ) (uses : List Relocation) (defines : List Address) (leaving : List ForwardJump) : Type 0 where
   pub parts : List Part
   pub are_parts : All IsPart parts

@@ -14,11 +14,11 @@ use Rattle.al_code.specs.Pieces.Piece.{Leaving}
 use Rattle.al_code.specs.ExprPieces.{check_code, guarded, load_slot, number, of_size, one, store_slot}
 use Rattle.al_code.specs.Templates.{value_of}
 
--- a loop so many loops out is left
+-- the exit from the loop that is so many loops further out
 abbrev pub exit_code : ℕ → List Piece
 exit_code loops = Leaving when.Always (target.Loop loops) ∷ []
 
--- where the word on top is 0, this one is
+-- the exit from the innermost loop if the word on top is 0
 abbrev pub while_code : List Piece
 while_code = Leaving when.IfZero (target.Loop 0) ∷ []
 
@@ -39,7 +39,7 @@ abbrev pub high_word : Bool → ℕ → ℕ → ℕ
 high_word true parameter last = parameter
 high_word false parameter last = last
 
--- the bounds, and the end where there is nothing between them
+-- the bounds, and the exit if the range is null
 unfoldable pub bounds_code : ℕ → Bool → TypedTree → TypedTree → ℕ → ℕ → List Piece
 bounds_code depth is_reverse low high parameter last =
     value_of depth low ++ store_slot (low_word is_reverse parameter last) ++ value_of depth high ++ store_slot (high_word is_reverse parameter last)
@@ -57,13 +57,13 @@ abbrev pub step_operator : Bool → PlainOne
 step_operator true = plain.Subtract
 step_operator false = plain.Add
 
--- the end where the parameter has its last value, or else its next value
+-- the exit if the parameter has its last value, or else its next value
 unfoldable pub turn_code : Bool → ℕ → ℕ → List Piece
 turn_code is_reverse parameter last =
     compare_code parameter last plain.Equal ++ guarded (exit_code 0) ++ load_slot parameter ++ number (pos 1) ++ one (step_operator is_reverse)
     ++ store_slot parameter
 
--- a loop round statements of this code
+-- a loop around statements with this code
 abbrev pub round_code : ℕ → SchemeTree → List Piece → List Piece
 round_code depth ForeverScheme p = repeated p
 round_code depth (WhileScheme condition) p = repeated (value_of depth condition ++ while_code ++ p)

@@ -1,4 +1,4 @@
--- Where code begins that is of a line.
+-- Marks at which the code of a line begins.
 use Rattle.std.specs.Prelude.{ℕ, Bool, true, false, ◌||◌, List, [], ◌∷◌}
 use Rattle.std.specs.List.{list_any}
 use Rattle.al_view.specs.declared.view.ObjectPlace.{ObjectPlace}
@@ -17,7 +17,7 @@ unfoldable pub mark_of : Bool → ℕ → List Piece
 mark_of true line = Line line ∷ []
 mark_of false line = []
 
--- whether there is one at all
+-- whether a list has a member
 abbrev pub is_some_of : {A : Type 0} → List A → Bool
 is_some_of [] = false
 is_some_of (x ∷ xs) = true
@@ -26,11 +26,11 @@ abbrev pub flag_has_code : ObjectPlace → Bool
 flag_has_code (places.Frame d word) = true
 flag_has_code (places.Static symbol word) = false
 
--- whether there is code where components that are declared together have a value: for each of them
+-- whether components that are declared together have code for their first value: the value of each of them
 abbrev pub component_has_code : ComponentValueTree → Bool
 component_has_code c = is_some_of c.places
 
--- whether there is code where a declaration stands
+-- whether a declaration has code
 abbrev pub declaration_has_code : DeclarationFormTree → Bool
 declaration_has_code (Objects objects words value) = is_some_of objects
 declaration_has_code (Subprogram flag) = flag_has_code flag
@@ -42,7 +42,7 @@ abbrev pub has_branch : BranchesTree → Bool
 has_branch NoBranch = false
 has_branch (MoreBranches b bs) = true
 
--- whether there is code where a statement stands, or some statements
+-- whether a statement has code, or some of these statements
 abbrev mutual
   pub has_code : StatementFormTree → Bool
   has_code NullStatement = false

@@ -20,20 +20,20 @@ use Rattle.al_code.specs.Routines.{unit_code}
 abbrev pub place_address : LinkKind → DataPlace → Address
 place_address kind p = record { symbol = link kind p.symbol; offset = p.word }
 
--- a protected object goes by its words and by its number
+-- a protected object has two symbols: for its words and for its number
 abbrev pub protected_addresses : ℕ → List ProtectedWords → List Address
 protected_addresses number [] = []
 protected_addresses number (p ∷ ps) =
     record { symbol = link links.Data p.symbol; offset = p.word } ∷ record { symbol = link links.Protected p.symbol; offset = word_of number } ∷ protected_addresses (number + 1) ps
 
--- what stands among a unit's words
+-- the symbols among a unit's words
 abbrev pub data_addresses : UnitTree → List Address
 data_addresses u = map (place_address links.Data) u.objects ++ map (place_address links.Flag) u.flags ++ protected_addresses 0 u.protected_objects
 
 abbrev pub region_of : ProtectedWords → Region
 region_of p = record { word = p.word; words = p.words; ceiling = p.ceiling }
 
--- how many tasks declarations create
+-- the number of tasks that declarations create
 abbrev pub is_task : DeclarationFormTree → ℕ
 is_task (SingleTask symbol priority) = 1
 is_task _ = 0
@@ -57,6 +57,6 @@ compiled_of u ps = record {
   lines = line_table (size ps) (lines_from 0 ps);
 }
 
--- the object of a unit: its code, where that is no longer than that of any image
+-- the object of a unit: its code, if that is no longer than that of any image
 unfoldable pub object_of : UnitTree → Object
 object_of u = if nat_le (size (unit_code u)) 16777216 then Compiled (compiled_of u (unit_code u)) else Large

@@ -1,4 +1,4 @@
--- The parts of a name above its object: what leads from the address of each to that of the next.
+-- The parts of a name after its object: the steps from the address of each to that of the next.
 use Rattle.std.specs.Prelude.{ℕ, ◌<◌, List, [], ◌∷◌, ◌++◌, ⊤}
 use Rattle.al_instr.specs.declared.numbers.Sized.TheVariants as sized
 use Rattle.al_code.specs.Pieces.{Piece}
@@ -14,7 +14,7 @@ abbrev pub part_code : ℕ → Part → List Piece
 part_code depth (Selected offset) = of_size sized.Field offset
 part_code depth (Indexed index bounds words) = value_of depth (typed_model index.now) ++ index_code bounds.now words
 
--- the last part of the text comes first
+-- the last step of the source comes first
 abbrev pub parted_code : ℕ → List Part → List Piece
 parted_code depth [] = []
 parted_code depth (part ∷ parts) = parted_code depth parts ++ part_code depth part

@@ -29,7 +29,7 @@ use Rattle.al_code.specs.Declarations.{declarations_code}
 use Rattle.al_code.specs.Marks.{mark_of}
 use Rattle.al_code.specs.Statements.{statements_code}
 
--- what is done to a protected object
+-- an action on a protected object
 abbrev pub act_code : ProtectedOne → Symbol → List Piece
 act_code what object = Using (instr.Protected what 0) (link links.Protected object) ∷ []
 
@@ -42,7 +42,7 @@ mode_code mode.InOut word words = slot word ++ of_size sized.Load words
 unfoldable pub formal_code : FormalWords → List Piece
 formal_code f = mode_code f.mode f.word f.words
 
--- a task tells that its activation ends (ARM 9.2)
+-- a task says that its activation ends (ARM 9.2)
 abbrev pub begun_code : Bool → List Piece
 begun_code true = one plain.Begun
 begun_code false = []
@@ -55,7 +55,7 @@ ending_code r e = closed construct.Routine (statements_code r (statements_of e.s
 unfoldable pub inside_code : Routine → Bool → ElaborationTree → List Piece
 inside_code r is_task e = of_size sized.Enter e.frame ++ declarations_code r.depth e.declarations ++ begun_code is_task ++ ending_code r e
 
--- the body of an entry is called by whoever is inside of its object
+-- the body of an entry is called by a task that is inside of its object
 unfoldable pub entry_call_code : Symbol → List Piece
 entry_call_code entry = one plain.Root ++ Using (instr.Call 0 0) (link EntryBody entry) ∷ []
 
@@ -63,21 +63,21 @@ entry_call_code entry = one plain.Root ++ Using (instr.Call 0 0) (link EntryBody
 unfoldable pub barrier_code : ℕ → ObjectPlace → List Piece
 barrier_code depth barrier = place_code Data depth barrier ++ of_size sized.Load 1
 
--- who waits at the entry is served where its barrier is open (ARM 9.5.3)
+-- those who wait at the entry are served if its barrier is open (ARM 9.5.3)
 unfoldable pub served_code : ℕ → Symbol → Option EntryOf → List Piece
 served_code depth object None = []
 served_code depth object (Some e) =
     act_code action.Waiting object
     ++ guarded (barrier_code depth e.barrier ++ guarded (entry_call_code e.entry ++ act_code action.Wake object))
 
--- the gate of an entry: its body is called where the barrier is open, and else the caller waits
+-- the gate of an entry: its body is called if the barrier is open, and else the caller waits
 unfoldable pub gate_code : ℕ → Symbol → Symbol → ObjectPlace → List Piece
 gate_code depth entry object barrier =
     act_code action.EnterEntry object ++ barrier_code depth barrier
     ++ guarded (entry_call_code entry ++ one plain.Leave ++ of_size sized.Return 0)
     ++ act_code action.Block object ++ of_size sized.Return 0
 
--- a body whose returns leave no protected object, and a function of one
+-- the code in a body whose returns leave no protected object, and in a protected function
 abbrev pub within : ℕ → Routine
 within depth = record { depth = depth; unlocks = false }
 
@@ -87,7 +87,7 @@ unlocking depth = record { depth = depth; unlocks = true }
 unfoldable pub copied_code : List FormalWords → ℕ → List Piece
 copied_code formals copied = flat_map formal_code formals ++ of_size sized.Return copied
 
--- ---- bodies by what they are bodies of
+-- ---- bodies by their kinds
 
 unfoldable pub procedure_code : BodyTree → ℕ → List Piece
 procedure_code b copied = Begins (link Code b.symbol) ∷ [] ++ mark_of true b.inside.line ++ inside_code (within b.depth) false b.inside ++ copied_code b.formals copied
@@ -128,6 +128,6 @@ body_code b = kind_code b b.kind
 unfoldable pub elaboration_code : ElaborationTree → List Piece
 elaboration_code e = mark_of true e.line ++ inside_code (within 1) false e ++ of_size sized.Return 0
 
--- a unit: its elaboration, where it has one, and its bodies in text order
+-- a unit: its elaboration, if it has one, and its bodies in the order of the source
 unfoldable pub unit_code : UnitTree → List Piece
 unit_code u = option_map_or elaboration_code u.elaboration [] ++ flat_map body_code u.bodies

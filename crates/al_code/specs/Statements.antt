@@ -29,21 +29,21 @@ use Rattle.al_code.specs.Marks.{has_code, mark_of}
 abbrev pub assignment_code : ℕ → NameTree → ℕ → ValueTree → List Piece
 assignment_code depth target words value = checked_code depth value ++ address_of depth target ++ of_size sized.Store words
 
--- a function of a protected object leaves that before it returns
+-- a protected function leaves its object before it returns
 abbrev pub unlocked_code : Bool → List Piece
 unlocked_code true = one plain.Leave
 unlocked_code false = []
 
--- to the end of the statements, or with the value of a function
+-- a return: to the end of the statements, or with the value of a function
 abbrev pub return_code : Routine → Option ValueTree → ℕ → List Piece
 return_code r None words = Leaving when.Always target.Routine ∷ []
 return_code r (Some value) words = checked_code r.depth value ++ unlocked_code r.unlocks ++ of_size sized.Return words
 
--- whether the value that is kept lies within a choice's bounds
+-- whether the kept value is within a choice's bounds
 unfoldable pub choice_code : ℕ → Bounds → List Piece
 choice_code word b = load_slot word ++ number b.low ++ one plain.AtLeast ++ load_slot word ++ number b.high ++ one plain.AtMost ++ one plain.And
 
--- or within those of one more
+-- whether it is within the bounds of one more choice too
 unfoldable pub other_choice_code : ℕ → Bounds → List Piece
 other_choice_code word b = choice_code word b ++ one plain.Or
 
@@ -51,7 +51,7 @@ abbrev pub choices_code : ℕ → List Bounds → List Piece
 choices_code word [] = []
 choices_code word (b ∷ bs) = choice_code word b ++ flat_map (other_choice_code word) bs
 
--- the statements of `others`, where there are any
+-- the statements of `others`, if there is that choice
 abbrev pub others_code : StatementsTree → List Piece → List Piece
 others_code NoStatement p = []
 others_code (MoreStatements s ss) p = p ++ join

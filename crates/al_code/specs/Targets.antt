@@ -1,11 +1,11 @@
--- Where jumps lead whose ends aren't there yet.
+-- The targets of jumps whose ends aren't there yet.
 use Rattle.std.specs.Prelude.{zero, suc, Option, Some, None}
 use Rattle.al_code.specs.declared.piece.Target.{Target}
 use Rattle.al_code.specs.declared.piece.Target.TheVariants as target
 use Rattle.al_code.specs.declared.piece.Construct.{Construct}
 use Rattle.al_code.specs.declared.piece.Construct.TheVariants as construct
 
--- the same target seen from outside of a construct; none where it is the end of that
+-- the target as it is outside of a construct; none if it is the end of that construct
 abbrev pub outside : Construct → Target → Option Target
 outside construct.Test target.Next = None
 outside construct.Test t = Some t

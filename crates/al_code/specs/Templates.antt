@@ -79,12 +79,12 @@ abbrev pub negation_code : Bool → List Piece
 negation_code true = one plain.Not
 negation_code false = []
 
--- `and then`, `or else`, after the left value: where that decides, the right one isn't computed (ARM 4.5.1(7))
+-- `and then`, `or else`, after the left value: if that decides, the right one isn't computed (ARM 4.5.1(7))
 unfoldable pub short_code : ShortCircuit → List Piece → List Piece
 short_code short.AndThen right = closed construct.Choice (guarded (right ++ join) ++ number (pos 0))
 short_code short.OrElse right = closed construct.Choice (guarded (number (pos 1) ++ join) ++ right)
 
--- the value after or before it (ARM 3.5(22, 25))
+-- the value after or before the operand's (ARM 3.5(22, 25))
 unfoldable pub step_code : Conversion → List Piece
 step_code conversions.Succ = number (pos 1) ++ one plain.Add
 step_code conversions.Pred = number (pos 1) ++ one plain.Subtract
@@ -93,46 +93,46 @@ step_code _ = []
 abbrev pub words_of : TypedTree → ℕ
 words_of (Labelled labels form) = labels.words
 
--- a largest static expression is its value (ARM 4.9)
+-- the code of an expression whose static value is labelled is that value (ARM 4.9)
 abbrev pub static_or : Option StaticValue → List Piece → List Piece
 static_or (Some v) code = number v.word
 static_or None code = code
 
--- sees that a body is elaborated (ARM 3.11(10))
+-- the check that a body is elaborated (ARM 3.11(10))
 unfoldable pub flag_code : ℕ → Option ObjectPlace → List Piece
 flag_code depth None = []
 flag_code depth (Some place) = place_code Flag depth place ++ of_size sized.Load 1 ++ one plain.Access
 
--- the first words of a frame: of what a body declares, and of what stands at library level
+-- the first words of a frame, for what a body declares and for what is at library level
 abbrev pub mark_code : ℕ → Callee → List Piece
 mark_code depth (callee.Subprogram symbol zero) = one plain.Root
 mark_code depth (callee.Subprogram symbol (suc d)) = of_size sized.Mark (depth - suc d)
 mark_code depth (callee.Protected symbol) = one plain.Root
 mark_code depth (callee.Entry symbol) = one plain.Root
 
--- the call itself, with actuals of so many words; of an entry its gate is called (ARM 9.5.3)
+-- the call itself, with actuals of so many words; for an entry its gate is called (ARM 9.5.3)
 abbrev pub routine_code : Callee → ℕ → List Piece
 routine_code (callee.Subprogram symbol depth) words = Using (instr.Call 0 words) (link Code symbol) ∷ []
 routine_code (callee.Protected symbol) words = Using (instr.Call 0 words) (link Code symbol) ∷ []
 routine_code (callee.Entry symbol) words = Using (instr.Call 0 words) (link Gate symbol) ∷ []
 
--- the check of what is passed to a formal of this mode
+-- the check of a value that is passed to a formal of this mode
 abbrev pub formal_code : Mode → Option Bounds → List Piece
 formal_code mode.Out bounds = []
 formal_code _ bounds = check_code bounds
 
--- what is copied back (ARM 6.4.1(17))
+-- the copy back to one actual (ARM 6.4.1(17))
 abbrev pub copy_code : ActualTree → List Piece
 copy_code (InActual x) = []
 copy_code (VariableActual name words m formal actual word) = check_code actual ++ load_slot word ++ of_size sized.Store words
 
--- from the last
+-- the copies back, from the last one to the first
 abbrev pub copies_code : ActualsTree → List Piece
 copies_code NoActual = []
 copies_code (MoreActuals a as_) = copies_code as_ ++ copy_code a
 
 abbrev mutual
-  -- the value of an expression, in a body of so much nesting
+  -- the value of an expression, in a body of nesting depth `depth`
   pub value_of : ℕ → TypedTree → List Piece
   value_of depth (Labelled labels form) = static_or labels.value (form_code depth labels.words form)
 
@@ -178,7 +178,7 @@ abbrev mutual
   variables_code depth NoActual = []
   variables_code depth (MoreActuals a as_) = variable_code depth a ++ variables_code depth as_
 
-  -- what is passed
+  -- the actuals that are passed
   pub passed_code : ℕ → ActualTree → List Piece
   passed_code depth (InActual x) = checked_code depth x
   passed_code depth (VariableActual name words m formal actual word) = address_of depth name ++ of_size sized.Load words ++ formal_code m formal

@@ -1,4 +1,4 @@
--- Code that is being written.
+-- Code as it is written.
 use Rattle.std.specs.Prelude.{ℕ, pos, ◌+◌, ◌-◌, nat_le, is_none, ◌≡◌, if◌then◌else◌, List, [], ◌∷◌, ◌++◌, length, take, drop, Option, Some, None, IfSome}
 use Rattle.std.specs.List.{flat_map}
 use Rattle.al_instr.specs.declared.lines.LineEntry.{LineEntry}
@@ -11,7 +11,7 @@ use Rattle.al_code.specs.declared.piece.Construct.{Construct}
 use Rattle.al_code.specs.Targets.{outside}
 use Rattle.al_code.specs.Pieces.{Piece, piece_size, bytes_of, uses_from, defines_from, leaves_from, lines_from}
 
--- the bytes, where symbols are used and stand, the jumps that wait for their ends, and where which lines begin
+-- the bytes, the places at which symbols are used and defined, the jumps that wait for their ends, and the places at which lines begin
 pub record Buffer : Type 0 where
   pub code : List ℕ
   pub uses : List Relocation
@@ -32,7 +32,7 @@ grown b ps = record {
   lines = b.lines ++ lines_from (length b.code) ps;
 }
 
--- the same with one piece, where code passes no limit; none where it did
+-- a buffer with one piece at its end, if the code passes no limit; none if it did
 unfoldable pub with_piece : Option Buffer → Piece → Option Buffer
 with_piece None x = None
 with_piece (Some b) x = if nat_le (length b.code + piece_size x) 16777216 then Some (grown b (x ∷ [])) else None
@@ -46,7 +46,7 @@ unfoldable pub with_jump : List ℕ → ℕ → ℕ → List ℕ
 with_jump code place to =
     if nat_le (place + 5) (length code) then take (place + 1) code ++ (jump_bytes (pos (to - (place + 5))) ++ drop (place + 5) code) else code
 
--- the jumps to the end of the construct lead there
+-- the jumps to the end of the construct are filled in
 abbrev pub all_filled : Construct → ℕ → List ℕ → List ForwardJump → List ℕ
 all_filled c end code [] = code
 all_filled c end code (l ∷ ls) = all_filled c end (if is_none (outside c l.target) then with_jump code l.place end else code) ls
@@ -59,7 +59,7 @@ leave_or (Some t) place = record { place = place; target = t } ∷ []
 abbrev pub leaves_outside : Construct → List ForwardJump → List ForwardJump
 leaves_outside c ls = flat_map (λ l. leave_or (outside c l.target) l.place) ls
 
--- a construct ends, in which the jumps from this one on were noted
+-- a construct ends, with the jumps from this one on
 unfoldable pub ended : Option Buffer → ℕ → Construct → Option Buffer
 ended None first c = None
 ended (Some b) first c = Some (record b {
@@ -67,10 +67,10 @@ ended (Some b) first c = Some (record b {
   leaving = take first b.leaving ++ leaves_outside c (drop first b.leaving);
 })
 
--- where code ends, if it doesn't pass the limit
+-- the length of the code, if it doesn't pass the limit
 abbrev pub EndsAt : Option Buffer → ℕ → Type 0
 EndsAt w place = IfSome w (λ b. place ≡ length b.code)
 
--- how many jumps wait, if code doesn't pass the limit
+-- the number of jumps that wait, if the code doesn't pass the limit
 abbrev pub WaitsAt : Option Buffer → ℕ → Type 0
 WaitsAt w first = IfSome w (λ b. first ≡ length b.leaving)

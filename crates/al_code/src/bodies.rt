@@ -18,7 +18,7 @@ use al_instr::{Plain, Protected, Sized};
 use al_view::{LinkKind, Mode, ObjectPlace, Symbol};
 use al_view_typed::{BodyKind, Elaboration, EntryOf, FormalWords, TypedBody};
 
-/// What is done when a unit is elaborated (ARM 10.2(9)).
+/// Writes the code that elaborates a unit (ARM 10.2(9)).
 #[tactic(auto, using(crate::proofs::Writing::written_append), unfolding(al_view_typed::specs::UnitTrees::elaboration_model, crate::specs::Routines::elaboration_code))]
 pub(crate) fn emit_elaboration(out: &mut Output, elaboration: &Elaboration) -> Result<(), NoMemory>
     ensures { OnOk result (out.new ≡ written out.old (elaboration_code (elaboration_model elaboration.now))) }
@@ -28,7 +28,7 @@ pub(crate) fn emit_elaboration(out: &mut Output, elaboration: &Elaboration) -> R
     emit_sized(out, Sized::Return, 0)
 }
 
-/// A body by what it is a body of.
+/// Writes a body, by its kind.
 #[tactic(auto, unfolding(al_view_typed::specs::UnitTrees::body_model))]
 pub(crate) fn emit_body(out: &mut Output, body: &TypedBody) -> Result<(), NoMemory>
     ensures { OnOk result (out.new ≡ written out.old (body_code (body_model body.now))) }
@@ -59,7 +59,7 @@ fn emit_procedure(out: &mut Output, body: &TypedBody, copied: u32) -> Result<(),
     emit_copied(out, body.formals.as_slice(), copied)
 }
 
-/// A function that runs past its end raises Program_Error (ARM 6.5(20)).
+/// Writes a function. One that runs past its end raises Program_Error (ARM 6.5(20)).
 #[tactic(auto, using(crate::proofs::Writing::written_append), unfolding(al_view_typed::specs::UnitTrees::body_model, al_view_typed::specs::UnitTrees::elaboration_model, crate::specs::Routines::function_code))]
 fn emit_function(out: &mut Output, body: &TypedBody, end: usize) -> Result<(), NoMemory>
     ensures { OnOk result (out.new ≡ written out.old (function_code (body_model body.now) end)) }
@@ -135,7 +135,7 @@ fn emit_entry(
     emit_sized(out, Sized::Return, 0)
 }
 
-/// The frame, the declarations, the statements.
+/// Writes the inside of a body: its frame, its declarations and its statements.
 #[tactic(auto, using(crate::proofs::Writing::written_append), unfolding(al_view_typed::specs::UnitTrees::elaboration_model, crate::specs::Routines::inside_code))]
 fn emit_inside(
     out: &mut Output,
@@ -151,7 +151,7 @@ fn emit_inside(
     emit_ending(out, routine, inside)
 }
 
-/// The statements, to whose end returns lead.
+/// Writes the statements, and their end, to which returns lead.
 fn emit_ending(out: &mut Output, routine: Routine, inside: &Elaboration) -> Result<(), NoMemory>
     ensures { OnOk result (out.new ≡ written out.old (ending_code routine (elaboration_model inside.now))) }
 {
@@ -161,7 +161,7 @@ fn emit_ending(out: &mut Output, routine: Routine, inside: &Elaboration) -> Resu
     Ok(())
 }
 
-/// A task tells that its activation ends (ARM 9.2).
+/// Writes that the activation of a task ends, if the body is that of a task (ARM 9.2).
 #[tactic(auto, using(crate::proofs::Writing::written_nothing))]
 fn emit_begun(out: &mut Output, is_task: bool) -> Result<(), NoMemory>
     ensures { OnOk result (out.new ≡ written out.old (begun_code is_task)) }
@@ -172,7 +172,7 @@ fn emit_begun(out: &mut Output, is_task: bool) -> Result<(), NoMemory>
     Ok(())
 }
 
-/// The return of a procedure with what is copied back, of so many words (ARM 6.4.1(17)).
+/// Writes the return of a procedure that copies back `copied` words (ARM 6.4.1(17)).
 #[tactic(auto, using(crate::proofs::Writing::written_append), unfolding(crate::specs::Routines::copied_code))]
 fn emit_copied(out: &mut Output, formals: &[FormalWords], copied: u32) -> Result<(), NoMemory>
     ensures { OnOk result (out.new ≡ written out.old (copied_code formals.now copied)) }
@@ -201,7 +201,7 @@ fn emit_formal(out: &mut Output, formal: FormalWords) -> Result<(), NoMemory>
     }
 }
 
-/// So many words of the frame from this one on.
+/// Writes loads of `words` words of the frame, from this one on.
 #[tactic(auto, using(crate::proofs::Writing::written_append))]
 fn emit_words(out: &mut Output, word: u32, words: u32) -> Result<(), NoMemory>
     ensures { OnOk result (out.new ≡ written out.old (slot word ++ of_size sized.Load words)) }

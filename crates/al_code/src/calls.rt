@@ -1,4 +1,4 @@
-// Calls without what recurses (ARM 6.4).
+// Calls, except what recurses in them (ARM 6.4).
 ghost use Rattle.std.specs.Prelude.{◌≡◌, OnOk, map};
 ghost use Rattle.al_view_typed.specs.ExpressionViews.{actual_model, actuals_of};
 ghost use Rattle.al_code.specs.Written.{written};
@@ -11,7 +11,7 @@ use al_instr::{Instr, Plain, Sized};
 use al_view::{Bounds, LinkKind, Mode, ObjectPlace};
 use al_view_typed::{Actual, Callee};
 
-/// Sees that a body is elaborated (ARM 3.11(10)).
+/// Writes the check that a body is elaborated (ARM 3.11(10)).
 #[tactic(auto, using(crate::proofs::Writing::written_append, crate::proofs::Writing::written_nothing), unfolding(crate::specs::Templates::flag_code))]
 pub(crate) fn emit_flag(
     out: &mut Output,
@@ -30,7 +30,7 @@ pub(crate) fn emit_flag(
     }
 }
 
-/// The first words of the frame of what is called.
+/// Writes the first words of the called subprogram's frame.
 pub(crate) fn emit_mark(out: &mut Output, depth: u32, callee: &Callee) -> Result<(), NoMemory>
     ensures { OnOk result (out.new ≡ written out.old (mark_code depth callee.now)) }
 {
@@ -44,7 +44,7 @@ pub(crate) fn emit_mark(out: &mut Output, depth: u32, callee: &Callee) -> Result
     }
 }
 
-/// The call itself, with actuals of so many words.
+/// Writes the call itself, with actuals of so many words.
 pub(crate) fn emit_routine(out: &mut Output, callee: &Callee, words: u32) -> Result<(), NoMemory>
     ensures { OnOk result (out.new ≡ written out.old (routine_code callee.now words)) }
 {
@@ -56,7 +56,7 @@ pub(crate) fn emit_routine(out: &mut Output, callee: &Callee, words: u32) -> Res
     }
 }
 
-/// The check of what is passed to a formal of this mode.
+/// Writes the check of a value that is passed to a formal of this mode.
 #[tactic(auto, using(crate::proofs::Writing::written_nothing))]
 pub(crate) fn emit_formal(
     out: &mut Output,
@@ -72,7 +72,7 @@ pub(crate) fn emit_formal(
     }
 }
 
-/// What is copied back, from the last (ARM 6.4.1(17)).
+/// Writes the copies back to the actuals, from the last one to the first (ARM 6.4.1(17)).
 pub(crate) fn emit_copies(out: &mut Output, actuals: &[Actual]) -> Result<(), NoMemory>
     ensures { OnOk result (out.new ≡ written out.old (copies_code (actuals_of (map actual_model actuals.now)))) }
 {

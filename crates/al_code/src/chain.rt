@@ -1,4 +1,4 @@
-// Chains of operators, which lean to the left: `A - B + C` has `A - B` at the left of its `+`.
+// Chains of operators, which lean to the left: in `A - B + C` the left operand of `+` is `A - B`.
 ghost use Rattle.std.specs.Prelude.{◌≡◌, ℕ, ◌++◌, IfOk, IfSome};
 ghost use Rattle.al_code.specs.Chains.{AreBelow, IsBelow, chained_code, sign_code};
 ghost use Rattle.al_code.specs.Templates.{value_of};
@@ -8,16 +8,16 @@ use al_base::NoMemory;
 use al_view_typed::{BinaryOperator, Form, ShortCircuit, Typed};
 use std::alloc::Global;
 
-/// What stands between the operands of a link.
+/// The operator between the operands of a link.
 #[derive(Clone, Copy)]
 pub(crate) enum Sign {
     /// An operator, with the words of its left operand.
     Operator(BinaryOperator, u32),
-    /// `and then` or `or else`
+    /// `and then` or `or else`.
     ShortCircuit(ShortCircuit),
 }
 
-/// What stands after the left operand of a link.
+/// The part of a link that comes after its left operand.
 #[derive(Drop)]
 pub(crate) struct Joint<'a> {
     pub(crate) sign: Sign,
@@ -31,14 +31,14 @@ struct Link<'a> {
     joint: Joint<'a>,
 }
 
-/// A chain: its first operand, and what stands after that. The last link of the text comes first.
+/// A chain: its first operand, and the links after it. The last link of the source comes first.
 #[derive(Drop)]
 pub(crate) struct Chain<'a> {
     pub(crate) first: &'a Typed,
     pub(crate) joints: Vec<Joint<'a>>,
 }
 
-/// The last link of an expression that is computed, where it has an operator with two operands.
+/// The last link of an expression that is computed, if it is an operator with two operands.
 #[tactic(auto, using(crate::proofs::ExprLayers::typed_layers, crate::proofs::ExprLayers::typed_words, al_view_typed::proofs::ExpressionsMade::binary_made, al_view_typed::proofs::ExpressionsMade::short_circuit_made))]
 fn last_link(typed: &Typed) -> Option<Link<'_>>
     ensures code { IfSome result (λ l. (depth : ℕ) → value_of depth (typed_model typed.now) ≡ value_of depth (typed_model l.left.now) ++ sign_code l.joint.sign (value_of depth (typed_model l.joint.right.now))) }
@@ -62,7 +62,7 @@ fn last_link(typed: &Typed) -> Option<Link<'_>>
     }
 }
 
-/// The chain that an expression is, where it has a link.
+/// The chain that an expression is, if it has a link.
 #[tactic(auto, using(crate::proofs::ChainLemmas::first_chained, crate::proofs::ChainLemmas::pushed_below))]
 pub(crate) fn chain_of(alloc: Global, typed: &Typed) -> Result<Option<Chain<'_>>, NoMemory>
     ensures code { IfOk result (λ o. IfSome o (λ c. (depth : ℕ) → value_of depth (typed_model c.first.now) ++ chained_code depth c.joints.items ≡ value_of depth (typed_model typed.now))) }

@@ -13,7 +13,7 @@ use al_instr::Plain;
 use al_view::Bounds;
 use al_view_typed::Typed;
 
-/// The selector's value is kept.
+/// Writes that the selector's value is kept.
 #[tactic(auto, using(crate::proofs::Writing::written_append))]
 pub(crate) fn emit_selector(
     out: &mut Output,
@@ -27,7 +27,7 @@ pub(crate) fn emit_selector(
     emit_store_slot(out, word)
 }
 
-/// Whether the value that is kept lies within the bounds of any choice.
+/// Writes the test whether the kept value is within the bounds of any choice.
 #[tactic(auto, using(crate::proofs::Writing::written_append, crate::proofs::Writing::written_nothing))]
 pub(crate) fn emit_choices(out: &mut Output, word: u32, choices: &[Bounds]) -> Result<(), NoMemory>
     ensures { OnOk result (out.new ≡ written out.old (choices_code word choices.now)) }

@@ -5,7 +5,7 @@ ghost use Rattle.al_view_typed.specs.ExpressionViews.{form_model, typed_model, v
 
 use al_view_typed::{CheckedValue, Conversion, Form, Typed};
 
-/// Whether a conversion is no step to another value.
+/// Whether a conversion leaves its operand's value as it is, without code.
 fn keeps_value(conversion: Conversion) -> bool
     ensures { result ≡ keeps_value conversion }
 {
@@ -48,7 +48,7 @@ fn is_codeless_form(form: &Form) -> bool
     }
 }
 
-/// Whether a value with its check has no code, as one of no components has none.
+/// Whether a value has no code, not even for its check, as a value without components.
 #[cycle(codeless)]
 #[tactic(auto, using(crate::proofs::ExprLayers::value_layers))]
 pub(crate) fn is_codeless_value(value: &CheckedValue) -> bool

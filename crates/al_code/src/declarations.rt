@@ -1,4 +1,4 @@
-// Declarations where they stand (ARM 3.11).
+// The code of declarations (ARM 3.11).
 ghost use Rattle.std.specs.Prelude.{◌≡◌, [], ◌∷◌, OnOk, map, option_map};
 ghost use Rattle.std.specs.List.{flat_map, list_any};
 ghost use Rattle.al_view.specs.ViewUses.{link};
@@ -27,14 +27,14 @@ fn is_flag_in_frame(place: &ObjectPlace) -> bool
     }
 }
 
-/// Whether there is code where components that are declared together have a value.
+/// Whether components that are declared together have code for their first value.
 fn has_components(component: &ComponentValue) -> bool
     ensures { result ≡ is_some_of component.now.places }
 {
     !component.places.as_slice().is_empty()
 }
 
-/// Whether there is code where components of a protected object have values.
+/// Whether components of a protected object have code for their first values.
 fn components_have_code(values: &[ComponentValue]) -> bool
     ensures { result ≡ list_any component_has_code (map component_value_model values.now) }
 {
@@ -46,7 +46,7 @@ fn components_have_code(values: &[ComponentValue]) -> bool
     false
 }
 
-/// Whether there is code where a declaration stands.
+/// Whether a declaration has code.
 fn has_code(form: &DeclarationForm) -> bool
     ensures { result ≡ declaration_has_code (form_model form.now) }
 {
@@ -59,7 +59,7 @@ fn has_code(form: &DeclarationForm) -> bool
     }
 }
 
-/// Whether there is code where some declarations stand.
+/// Whether some of these declarations have code.
 pub(crate) fn declarations_have_code(declarations: &[TypedDeclaration]) -> bool
     ensures { result ≡ list_any (λ d. declaration_has_code d.form) (map declaration_model declarations.now) }
 {
@@ -71,7 +71,7 @@ pub(crate) fn declarations_have_code(declarations: &[TypedDeclaration]) -> bool
     false
 }
 
-/// A declaration, with its line where it has code.
+/// Writes a declaration, with its line if it has code.
 #[tactic(auto, using(crate::proofs::Writing::written_append))]
 fn emit_marked(out: &mut Output, depth: u32, declaration: &TypedDeclaration) -> Result<(), NoMemory>
     ensures { OnOk result (out.new ≡ written out.old (declaration_code depth (declaration_model declaration.now))) }
@@ -80,7 +80,7 @@ fn emit_marked(out: &mut Output, depth: u32, declaration: &TypedDeclaration) -> 
     emit_declaration(out, depth, &declaration.form)
 }
 
-/// Declarations one after another, in a body of so much nesting.
+/// Writes declarations one after another, in a body of nesting depth `depth`.
 pub(crate) fn emit_declarations(
     out: &mut Output,
     depth: u32,
@@ -112,7 +112,7 @@ fn emit_declaration(out: &mut Output, depth: u32, form: &DeclarationForm) -> Res
     }
 }
 
-/// Objects begin with their value, or with zeros (ARM 3.3.1).
+/// Writes the first values of objects: their value, or zeros (ARM 3.3.1).
 fn emit_objects(
     out: &mut Output,
     depth: u32,
@@ -151,7 +151,7 @@ fn emit_object(
     }
 }
 
-/// A flag in a frame begins with no (ARM 3.11(10)).
+/// Writes that a flag in a frame is false at first (ARM 3.11(10)).
 #[tactic(auto, using(crate::proofs::Writing::written_append, crate::proofs::Writing::written_nothing), unfolding(crate::specs::Declarations::subprogram_code))]
 fn emit_subprogram(out: &mut Output, depth: u32, flag: &ObjectPlace) -> Result<(), NoMemory>
     ensures { OnOk result (out.new ≡ written out.old (subprogram_code depth flag.now)) }
@@ -165,7 +165,7 @@ fn emit_subprogram(out: &mut Output, depth: u32, flag: &ObjectPlace) -> Result<(
     }
 }
 
-/// The body is elaborated from here on.
+/// Writes that a body is elaborated from here on.
 #[tactic(auto, using(crate::proofs::Writing::written_append), unfolding(crate::specs::Declarations::elaborated_code))]
 fn emit_elaborated(out: &mut Output, depth: u32, flag: &ObjectPlace) -> Result<(), NoMemory>
     ensures { OnOk result (out.new ≡ written out.old (elaborated_code depth flag.now)) }
@@ -175,7 +175,7 @@ fn emit_elaborated(out: &mut Output, depth: u32, flag: &ObjectPlace) -> Result<(
     emit_sized(out, Sized::Store, 1)
 }
 
-/// A task is created (ARM 9.1).
+/// Writes the creation of a task (ARM 9.1).
 fn emit_task(out: &mut Output, symbol: &Symbol, priority: Priority) -> Result<(), NoMemory>
     ensures { OnOk result (out.new ≡ written out.old (Using (Task 0 priority) (link Code symbol.now) ∷ [])) }
 {
@@ -184,7 +184,7 @@ fn emit_task(out: &mut Output, symbol: &Symbol, priority: Priority) -> Result<()
     out.emit_using(&task, LinkKind::Code, symbol)
 }
 
-/// The first values of components of a protected object (ARM 9.4).
+/// Writes the first values of the components of a protected object (ARM 9.4).
 fn emit_components(
     out: &mut Output,
     depth: u32,
@@ -199,7 +199,7 @@ fn emit_components(
     Ok(())
 }
 
-/// Components that are declared together each evaluate their value (ARM 3.3.1(7)).
+/// Writes the first values of components that are declared together. Each of them evaluates the expression (ARM 3.3.1(7)).
 fn emit_component(
     out: &mut Output,
     depth: u32,
@@ -249,7 +249,7 @@ fn emit_seeded(
     emit_seed(out, symbol, word, words)
 }
 
-/// The words on top become the first value of a component, from this word of the object on.
+/// Writes that the words on top become the first value of a component, from this word of the object on.
 fn emit_seed(out: &mut Output, symbol: &Symbol, word: u32, words: u32) -> Result<(), NoMemory>
     ensures { OnOk result (out.new ≡ written out.old (Using (Seed word words) (link Data symbol.now) ∷ [])) }
 {

@@ -1,4 +1,4 @@
-// Names, expressions and calls: what recurses.
+// Names, expressions and calls: the part that recurses.
 ghost use Rattle.std.specs.Prelude.{◌≡◌, ◌++◌, OnOk, map};
 ghost use Rattle.al_view_typed.specs.ExpressionViews.{actual_model, actuals_of, call_model, form_model, name_model, typed_model, value_model, values_of};
 ghost use Rattle.al_code.specs.Written.{written};
@@ -26,7 +26,10 @@ use al_view_typed::{
     Actual, CheckedValue, Conversion, Form, ShortCircuit, Typed, TypedCall, TypedName,
 };
 
-/// The value of an expression, in a body of so much nesting. A chain of operators takes nothing of the stack for each.
+/// Writes the value of an expression, in a body of nesting depth `depth`. A chain of operators takes no stack for each of them.
+///
+/// # Errors
+/// `NoMemory` if the allocator refuses memory.
 #[cycle(expression)]
 #[tactic(auto, using(crate::proofs::Writing::written_append, crate::proofs::ChainLemmas::next_written, crate::proofs::ChainLemmas::popped_below))]
 pub fn emit_value(out: &mut Output, depth: u32, typed: &Typed) -> Result<(), NoMemory>
@@ -43,7 +46,7 @@ pub fn emit_value(out: &mut Output, depth: u32, typed: &Typed) -> Result<(), NoM
     Ok(())
 }
 
-/// What follows the left operand of a link.
+/// Writes what follows the left operand of a link.
 #[cycle(expression)]
 #[tactic(auto, using(crate::proofs::Writing::written_append))]
 fn emit_joint(out: &mut Output, depth: u32, sign: Sign, right: &Typed) -> Result<(), NoMemory>
@@ -58,7 +61,7 @@ fn emit_joint(out: &mut Output, depth: u32, sign: Sign, right: &Typed) -> Result
     }
 }
 
-/// The value of an expression by its form.
+/// Writes the value of an expression that is no chain.
 #[cycle(expression)]
 #[tactic(auto, using(crate::proofs::ExprLayers::typed_layers))]
 fn emit_single(out: &mut Output, depth: u32, typed: &Typed) -> Result<(), NoMemory>
@@ -117,7 +120,10 @@ fn emit_form(out: &mut Output, depth: u32, words: u32, form: &Form) -> Result<()
     }
 }
 
-/// The address of an object or of a part of one. A part of parts takes nothing of the stack for each.
+/// Writes the address of an object or of a part of one. A name with many parts takes no stack for each of them.
+///
+/// # Errors
+/// `NoMemory` if the allocator refuses memory.
 #[cycle(expression)]
 #[tactic(auto, using(crate::proofs::Writing::written_append))]
 pub fn emit_address(out: &mut Output, depth: u32, name: &TypedName) -> Result<(), NoMemory>
@@ -136,7 +142,7 @@ pub fn emit_address(out: &mut Output, depth: u32, name: &TypedName) -> Result<()
     Ok(())
 }
 
-/// What leads from the address of an array to that of a component, of so many words.
+/// Writes the step from the address of an array to that of a component, which has so many words.
 #[cycle(expression)]
 #[tactic(auto, using(crate::proofs::Writing::written_append))]
 fn emit_element(
@@ -152,7 +158,10 @@ fn emit_element(
     emit_index(out, bounds, words)
 }
 
-/// A value with its check.
+/// Writes a value with its check.
+///
+/// # Errors
+/// `NoMemory` if the allocator refuses memory.
 #[cycle(expression)]
 #[tactic(auto, using(crate::proofs::Writing::written_append, crate::proofs::Writing::written_nothing, crate::proofs::ExprLayers::value_layers))]
 pub fn emit_checked(out: &mut Output, depth: u32, value: &CheckedValue) -> Result<(), NoMemory>
@@ -162,7 +171,7 @@ pub fn emit_checked(out: &mut Output, depth: u32, value: &CheckedValue) -> Resul
     emit_check(out, &value.bounds)
 }
 
-/// What follows the left operand of a short-circuit form (ARM 4.5.1(7)).
+/// Writes what follows the left operand of a short-circuit form (ARM 4.5.1(7)).
 #[cycle(expression)]
 fn emit_short(
     out: &mut Output,
@@ -194,7 +203,7 @@ fn emit_short(
     }
 }
 
-/// What a conversion, a qualified expression or an attribute makes of its operand.
+/// Writes what a conversion, a qualified expression or an attribute does to its operand.
 #[cycle(expression)]
 #[tactic(auto, using(crate::proofs::Writing::written_append, crate::proofs::ExprLayers::value_layers))]
 fn emit_converted(
@@ -210,7 +219,7 @@ fn emit_converted(
     emit_check(out, &value.bounds)
 }
 
-/// A value so many times. Of a value without code there is none, and past the limit nothing more is written.
+/// Writes a value so many times. A value without code gives none, and past the limit nothing more is written.
 #[cycle(expression)]
 fn emit_times(
     out: &mut Output,
@@ -232,7 +241,7 @@ fn emit_times(
     Ok(())
 }
 
-/// Values one after another.
+/// Writes values one after another.
 #[cycle(expression)]
 fn emit_components(out: &mut Output, depth: u32, values: &[CheckedValue]) -> Result<(), NoMemory>
     ensures { OnOk result (out.new ≡ written out.old (components_code depth (values_of (map value_model values.now)))) }
@@ -243,7 +252,10 @@ fn emit_components(out: &mut Output, depth: u32, values: &[CheckedValue]) -> Res
     Ok(())
 }
 
-/// A call (ARM 6.4).
+/// Writes a call (ARM 6.4).
+///
+/// # Errors
+/// `NoMemory` if the allocator refuses memory.
 #[cycle(expression)]
 #[tactic(auto, using(crate::proofs::Writing::written_append, crate::proofs::Writing::written_nothing, crate::proofs::ExprLayers::call_layers))]
 pub fn emit_call(out: &mut Output, depth: u32, call: &TypedCall) -> Result<(), NoMemory>

@@ -1,4 +1,4 @@
-// Jumps whose ends are there now.
+// Forward jumps whose targets are now known.
 ghost use Rattle.std.specs.Prelude.{◌≡◌, ◌<◌, ◌++◌, IfOk, OnOk};
 ghost use Rattle.al_code.specs.Written.{all_filled, leave_or, leaves_outside, with_jump};
 
@@ -6,7 +6,7 @@ use crate::piece::{Construct, ForwardJump, Target};
 use al_base::NoMemory;
 use std::alloc::Global;
 
-/// The jump at a place leads to another place after it.
+/// Fills in the jump at a place, which leads to a later place.
 #[tactic(auto, unfolding(crate::specs::Written::with_jump))]
 fn fill_jump(code: &mut [u8], place: usize, to: usize)
     requires { to < 2147483648 }
@@ -18,7 +18,7 @@ fn fill_jump(code: &mut [u8], place: usize, to: usize)
     }
 }
 
-/// The jumps to the end of the construct lead there.
+/// Fills in the jumps to the end of the construct.
 pub(crate) fn fill_all(code: &mut [u8], leaving: &[ForwardJump], construct: Construct, end: usize)
     requires { end < 2147483648 }
     ensures { code.new ≡ all_filled construct end code.old leaving.now }

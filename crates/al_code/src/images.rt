@@ -1,4 +1,4 @@
-// What is put out (ARM A.10.7).
+// Output of strings and images (ARM A.10.7).
 ghost use Rattle.std.specs.Prelude.{◌≡◌, ◌≤◌, OnOk, map};
 ghost use Rattle.std.specs.List.{flat_map};
 ghost use Rattle.al_view_typed.specs.StatementViews.{piece_model};
@@ -10,7 +10,7 @@ use al_base::NoMemory;
 use al_instr::{Plain, Sized};
 use al_view_typed::Piece;
 
-/// Put, Put_Line or New_Line of pieces, in a body of so much nesting.
+/// Writes Put, Put_Line or New_Line of pieces, in a body of nesting depth `depth`.
 #[tactic(auto, using(crate::proofs::Writing::written_append))]
 pub(crate) fn emit_output(
     out: &mut Output,
@@ -26,7 +26,7 @@ pub(crate) fn emit_output(
     emit_dropped(out, image_count(pieces))
 }
 
-/// The values that are put out as images.
+/// Writes the values whose images are put.
 fn emit_images(out: &mut Output, depth: u32, pieces: &[Piece]) -> Result<(), NoMemory>
     ensures { OnOk result (out.new ≡ written out.old (flat_map (image_code depth) (map piece_model pieces.now))) }
 {
@@ -47,7 +47,7 @@ fn emit_image(out: &mut Output, depth: u32, piece: &Piece) -> Result<(), NoMemor
     }
 }
 
-/// How many images there are.
+/// The number of images.
 fn image_count(pieces: &[Piece]) -> usize
     ensures { result ≡ images (map piece_model pieces.now) }
 {
@@ -69,7 +69,7 @@ fn of_image(piece: &Piece) -> usize
     }
 }
 
-/// The pieces in order.
+/// Writes the output of the pieces, in order.
 fn emit_pieces(out: &mut Output, pieces: &[Piece]) -> Result<(), NoMemory>
     ensures { OnOk result (out.new ≡ written out.old (pieces_code (map piece_model pieces.now))) }
 {
@@ -81,7 +81,7 @@ fn emit_pieces(out: &mut Output, pieces: &[Piece]) -> Result<(), NoMemory>
     Ok(())
 }
 
-/// One piece, with so many values above its own.
+/// Writes the output of one piece, with `above` values above its own.
 fn emit_piece(out: &mut Output, above: usize, piece: &Piece) -> Result<(), NoMemory>
     ensures { OnOk result (out.new ≡ written out.old (piece_code above (piece_model piece.now))) }
 {
@@ -102,7 +102,7 @@ fn emit_line(out: &mut Output, ends_line: bool) -> Result<(), NoMemory>
     Ok(())
 }
 
-/// The values go.
+/// Writes that the values are dropped.
 #[tactic(auto, using(crate::proofs::Writing::written_nothing))]
 fn emit_dropped(out: &mut Output, count: usize) -> Result<(), NoMemory>
     ensures { OnOk result (out.new ≡ written out.old (dropped_code count)) }

@@ -14,21 +14,21 @@ use al_instr::{Plain, Sized};
 use al_view::Bounds;
 use al_view_typed::Typed;
 
-/// A loop so many loops out is left.
+/// Writes the exit from the loop that is `loops` loops further out.
 pub(crate) fn emit_exit(out: &mut Output, loops: u32) -> Result<(), NoMemory>
     ensures { OnOk result (out.new ≡ written out.old (exit_code loops)) }
 {
     out.emit_leaving(JumpCondition::Always, Target::Loop(loops))
 }
 
-/// The loop is left where the word on top is 0.
+/// Writes the exit from the loop if the word on top is 0.
 pub(crate) fn emit_while(out: &mut Output) -> Result<(), NoMemory>
     ensures { OnOk result (out.new ≡ written out.old while_code) }
 {
     out.emit_leaving(JumpCondition::IfZero, Target::Loop(0))
 }
 
-/// What is done where the word on top isn't 0: a loop so many loops out is left.
+/// Writes the exit from the loop that is `loops` loops further out if the word on top isn't 0.
 pub(crate) fn emit_exit_unless_zero(out: &mut Output, loops: u32) -> Result<(), NoMemory>
     ensures { OnOk result (out.new ≡ written out.old (guarded (exit_code loops))) }
 {
@@ -39,7 +39,7 @@ pub(crate) fn emit_exit_unless_zero(out: &mut Output, loops: u32) -> Result<(), 
     Ok(())
 }
 
-/// `exit [when condition];` of a loop so many loops out.
+/// Writes `exit [when condition];` of the loop that is `loops` loops further out.
 #[tactic(auto, using(crate::proofs::Writing::written_append))]
 pub(crate) fn emit_leave(
     out: &mut Output,
@@ -58,7 +58,7 @@ pub(crate) fn emit_leave(
     }
 }
 
-/// Two words of the frame are compared.
+/// Writes the comparison of two words of the frame.
 #[tactic(auto, using(crate::proofs::Writing::written_append), unfolding(crate::specs::Loops::compare_code))]
 fn emit_compare(out: &mut Output, left: u32, right: u32, operator: Plain) -> Result<(), NoMemory>
     ensures { OnOk result (out.new ≡ written out.old (compare_code left right operator)) }
@@ -68,7 +68,7 @@ fn emit_compare(out: &mut Output, left: u32, right: u32, operator: Plain) -> Res
     emit_plain(out, operator)
 }
 
-/// The bounds of a `for` loop, and its end where there is nothing between them.
+/// Writes the bounds of a `for` loop, and the exit if its range is null.
 #[tactic(auto, using(crate::proofs::Writing::written_append), unfolding(crate::specs::Loops::bounds_code))]
 pub(crate) fn emit_bounds(
     out: &mut Output,
@@ -103,7 +103,7 @@ fn high_word(is_reverse: bool, parameter: u32, last: u32) -> u32
     if is_reverse { parameter } else { last }
 }
 
-/// A bound is checked against the range of the mark.
+/// Writes the check of a bound against the range of the mark, if there is one.
 #[tactic(auto, using(crate::proofs::Writing::written_append), unfolding(crate::specs::Loops::mark_check))]
 fn emit_mark_check(out: &mut Output, mark: &Option<Bounds>, word: u32) -> Result<(), NoMemory>
     ensures { OnOk result (out.new ≡ written out.old (mark_check mark.now word)) }
@@ -113,7 +113,7 @@ fn emit_mark_check(out: &mut Output, mark: &Option<Bounds>, word: u32) -> Result
     emit_sized(out, Sized::Drop, 1)
 }
 
-/// Both bounds of a loop with a mark are.
+/// Writes the checks of both bounds of a loop with a mark.
 #[tactic(auto, using(crate::proofs::Writing::written_append, crate::proofs::Writing::written_nothing), unfolding(crate::specs::Loops::marked_code))]
 pub(crate) fn emit_marked(
     out: &mut Output,
@@ -132,7 +132,7 @@ pub(crate) fn emit_marked(
     }
 }
 
-/// The end of a loop where its parameter has its last value, or else its next value.
+/// Writes the end of a round: an exit if the parameter has its last value, or else its next value.
 #[tactic(auto, using(crate::proofs::Writing::written_append), unfolding(crate::specs::Loops::turn_code))]
 pub(crate) fn emit_turn(
     out: &mut Output,

@@ -1,4 +1,4 @@
-// Where code begins that is of a line.
+// Marks at which the code of a line begins.
 ghost use Rattle.std.specs.Prelude.{◌≡◌, ◌||◌, map, OnOk};
 ghost use Rattle.al_view_typed.specs.StatementViews.{branch_model, branches_of, piece_model, statement_form_model, statement_model, statements_of};
 ghost use Rattle.al_code.specs.Written.{written};
@@ -9,7 +9,7 @@ use crate::declarations::declarations_have_code;
 use al_base::NoMemory;
 use al_view_typed::{Branch, Piece, StatementForm, TypedStatement};
 
-/// The code of a line begins here, where there is any.
+/// Writes the mark that the code of a line begins here, if there is any.
 #[tactic(auto, using(crate::proofs::Writing::written_nothing), unfolding(crate::specs::Marks::mark_of))]
 pub(crate) fn emit_mark(out: &mut Output, has_code: bool, line: usize) -> Result<(), NoMemory>
     ensures { OnOk result (out.new ≡ written out.old (mark_of has_code line)) }
@@ -20,7 +20,7 @@ pub(crate) fn emit_mark(out: &mut Output, has_code: bool, line: usize) -> Result
     Ok(())
 }
 
-/// Whether something is put out.
+/// Whether something is put.
 #[tactic(auto, using(crate::proofs::MarkLemmas::no_pieces, crate::proofs::MarkLemmas::some_pieces))]
 fn puts(pieces: &[Piece], ends_line: bool) -> bool
     ensures { result ≡ (ends_line || is_some_of (map piece_model pieces.now)) }
@@ -31,7 +31,7 @@ fn puts(pieces: &[Piece], ends_line: bool) -> bool
     true
 }
 
-/// Whether there is a branch at all.
+/// Whether there is a branch.
 #[tactic(auto, using(crate::proofs::MarkLemmas::branch_there))]
 fn has_branch(branches: &[Branch]) -> bool
     ensures { result ≡ has_branch (branches_of (map branch_model branches.now)) }
@@ -39,7 +39,7 @@ fn has_branch(branches: &[Branch]) -> bool
     !branches.is_empty()
 }
 
-/// Whether there is code where a statement stands.
+/// Whether a statement has code.
 #[cycle(coded)]
 #[tactic(auto, using(al_view_typed::proofs::StatementsMade::null_made, al_view_typed::proofs::StatementsMade::assignment_made, al_view_typed::proofs::StatementsMade::call_made, al_view_typed::proofs::StatementsMade::put_made, al_view_typed::proofs::StatementsMade::return_made, al_view_typed::proofs::StatementsMade::exit_made, al_view_typed::proofs::StatementsMade::delay_made, al_view_typed::proofs::StatementsMade::if_made, al_view_typed::proofs::StatementsMade::case_made, al_view_typed::proofs::StatementsMade::loop_made, al_view_typed::proofs::StatementsMade::block_made))]
 pub(crate) fn has_code(form: &StatementForm) -> bool
@@ -66,7 +66,7 @@ pub(crate) fn has_code(form: &StatementForm) -> bool
     }
 }
 
-/// Whether there is code where some statements stand.
+/// Whether some of these statements have code.
 #[cycle(coded)]
 #[tactic(auto, using(crate::proofs::Layers::statement_layers))]
 fn have_code(statements: &[TypedStatement]) -> bool

@@ -23,8 +23,11 @@ use al_view_typed::{
 };
 use std::alloc::Global;
 
-/// The object of a unit that is free of faults: its code, where symbols are used and stand in it, its words, its tasks, its
-/// protected objects and its lines; large where its code is longer than that of any image.
+/// The object of a labelled unit without errors: its code, the symbols that are used and defined in it, its words, its tasks, its protected objects
+/// and its lines. `Object::Large` if the code is longer than that of any image.
+///
+/// # Errors
+/// `NoMemory` if the allocator refuses memory.
 pub fn emit(alloc: Global, unit: &TypedUnit) -> Result<Object, NoMemory>
     requires { IsWellFormed (unit_model unit.now) }
     ensures { IfOk result (λ object. object ≡ object_of (unit_model unit.now)) }
@@ -57,7 +60,7 @@ fn lines_of(alloc: Global, written: &Written) -> Result<Vec<LineEntry>, NoMemory
     line_table(alloc, written.lines.as_slice(), written.code.len())
 }
 
-/// The elaboration of a unit, and its bodies.
+/// Writes the elaboration of a unit, and its bodies.
 #[tactic(auto, using(crate::proofs::Writing::written_append), unfolding(al_view_typed::specs::UnitTrees::unit_model, crate::specs::Routines::unit_code))]
 fn emit_unit(out: &mut Output, unit: &TypedUnit) -> Result<(), NoMemory>
     ensures { OnOk result (out.new ≡ written out.old (unit_code (unit_model unit.now))) }
@@ -85,7 +88,7 @@ fn emit_bodies(out: &mut Output, bodies: &[TypedBody]) -> Result<(), NoMemory>
     Ok(())
 }
 
-/// Where a symbol stands.
+/// The address of a symbol.
 fn address(alloc: Global, kind: LinkKind, symbol: &Symbol, offset: u32) -> Result<Address, NoMemory>
     ensures { IfOk result (λ address. address ≡ record { symbol = link kind symbol.now; offset = offset }) }
 {
@@ -94,7 +97,7 @@ fn address(alloc: Global, kind: LinkKind, symbol: &Symbol, offset: u32) -> Resul
     Ok(Address { symbol, offset })
 }
 
-/// What stands among the unit's words too.
+/// Adds the addresses of the symbols among the unit's words.
 #[tactic(auto, unfolding(al_view_typed::specs::UnitTrees::unit_model))]
 fn add_data(alloc: Global, defines: &mut Vec<Address>, unit: &TypedUnit) -> Result<(), NoMemory>
     ensures { OnOk result (defines.new.items ≡ defines.old.items ++ data_addresses (unit_model unit.now)) }
@@ -104,7 +107,7 @@ fn add_data(alloc: Global, defines: &mut Vec<Address>, unit: &TypedUnit) -> Resu
     add_protected(alloc, defines, unit.protected_objects.as_slice())
 }
 
-/// Objects, or flags.
+/// Adds the addresses of objects, or of flags.
 fn add_places(
     alloc: Global,
     defines: &mut Vec<Address>,
@@ -119,7 +122,7 @@ fn add_places(
     Ok(())
 }
 
-/// Protected objects, by their words and by their numbers.
+/// Adds the addresses of protected objects, of their words and of their numbers.
 fn add_protected(
     alloc: Global,
     defines: &mut Vec<Address>,
@@ -152,7 +155,7 @@ fn regions_of(alloc: Global, objects: &[ProtectedWords]) -> Result<Vec<Region>, 
     Ok(regions)
 }
 
-/// How many tasks an elaboration creates.
+/// The number of tasks that an elaboration creates.
 #[tactic(auto, unfolding(al_view_typed::specs::UnitTrees::elaboration_model))]
 fn task_count(elaboration: &Option<Elaboration>) -> usize
     ensures { result ≡ tasks_of (option_map elaboration_model elaboration.now) }

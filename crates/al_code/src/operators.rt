@@ -1,4 +1,4 @@
-// Operators, after their operands (ARM 4.5).
+// Operators, written after their operands (ARM 4.5).
 ghost use Rattle.std.specs.Prelude.{◌≡◌, OnOk};
 ghost use Rattle.al_code.specs.Written.{written};
 ghost use Rattle.al_code.specs.Templates.{above_code, below_code, binary_code, index_code, kept_code, negation_code, step_code, unary_code};
@@ -10,7 +10,7 @@ use al_instr::{Instr, Plain, Sized};
 use al_view::Bounds;
 use al_view_typed::{BinaryOperator, Conversion, UnaryOperator};
 
-/// An operator with one operand.
+/// Writes an operator with one operand.
 #[tactic(auto, using(crate::proofs::Writing::written_nothing))]
 pub(crate) fn emit_unary(out: &mut Output, operator: UnaryOperator) -> Result<(), NoMemory>
     ensures { OnOk result (out.new ≡ written out.old (unary_code operator)) }
@@ -23,7 +23,7 @@ pub(crate) fn emit_unary(out: &mut Output, operator: UnaryOperator) -> Result<()
     }
 }
 
-/// An operator on two operands of so many words.
+/// Writes an operator on two operands of so many words.
 #[tactic(auto, using(crate::proofs::Writing::written_append))]
 pub(crate) fn emit_binary(
     out: &mut Output,
@@ -57,7 +57,7 @@ pub(crate) fn emit_binary(
     }
 }
 
-/// The `not` of a membership test.
+/// Writes the `not` of a membership test.
 #[tactic(auto, using(crate::proofs::Writing::written_nothing))]
 pub(crate) fn emit_negation(out: &mut Output, is_negated: bool) -> Result<(), NoMemory>
     ensures { OnOk result (out.new ≡ written out.old (negation_code is_negated)) }
@@ -68,7 +68,7 @@ pub(crate) fn emit_negation(out: &mut Output, is_negated: bool) -> Result<(), No
     Ok(())
 }
 
-/// The value of a membership test is kept.
+/// Writes that the value of a membership test is kept.
 #[tactic(auto, using(crate::proofs::Writing::written_append), unfolding(crate::specs::Templates::kept_code))]
 pub(crate) fn emit_kept(out: &mut Output, word: u32) -> Result<(), NoMemory>
     ensures { OnOk result (out.new ≡ written out.old (kept_code word)) }
@@ -77,7 +77,7 @@ pub(crate) fn emit_kept(out: &mut Output, word: u32) -> Result<(), NoMemory>
     emit_load_slot(out, word)
 }
 
-/// It is compared with the low bound.
+/// Writes the comparison of the kept value with the low bound.
 #[tactic(auto, using(crate::proofs::Writing::written_append), unfolding(crate::specs::Templates::above_code))]
 pub(crate) fn emit_above(out: &mut Output, word: u32) -> Result<(), NoMemory>
     ensures { OnOk result (out.new ≡ written out.old (above_code word)) }
@@ -86,7 +86,7 @@ pub(crate) fn emit_above(out: &mut Output, word: u32) -> Result<(), NoMemory>
     emit_load_slot(out, word)
 }
 
-/// It is compared with the high bound.
+/// Writes the comparison of the kept value with the high bound.
 #[tactic(auto, using(crate::proofs::Writing::written_append), unfolding(crate::specs::Templates::below_code))]
 pub(crate) fn emit_below(out: &mut Output) -> Result<(), NoMemory>
     ensures { OnOk result (out.new ≡ written out.old below_code) }
@@ -95,7 +95,7 @@ pub(crate) fn emit_below(out: &mut Output) -> Result<(), NoMemory>
     emit_plain(out, Plain::And)
 }
 
-/// The address of a component, after the array's and the index.
+/// Writes the address of a component, after the address of the array and the index.
 pub(crate) fn emit_index(out: &mut Output, bounds: &Bounds, words: u32) -> Result<(), NoMemory>
     ensures { OnOk result (out.new ≡ written out.old (index_code bounds.now words)) }
 {
@@ -106,7 +106,7 @@ pub(crate) fn emit_index(out: &mut Output, bounds: &Bounds, words: u32) -> Resul
     })
 }
 
-/// What an attribute does to its operand (ARM 3.5(22, 25)).
+/// Writes what an attribute does to its operand (ARM 3.5(22, 25)).
 #[tactic(auto, using(crate::proofs::Writing::written_append, crate::proofs::Writing::written_nothing), unfolding(crate::specs::Templates::step_code))]
 pub(crate) fn emit_step(out: &mut Output, conversion: Conversion) -> Result<(), NoMemory>
     ensures { OnOk result (out.new ≡ written out.old (step_code conversion)) }

@@ -1,4 +1,4 @@
-// Code that is being written.
+// Code as it is written.
 ghost use Rattle.std.specs.Prelude.{◌≡◌, ◌≤◌, [], ◌∷◌, ◌++◌, ◌+◌, ℕ, Some, None, length, map, nat_le, is_none, if◌then◌else◌, IfOk, IfSome, IsSomeAnd, MatchOption, OnErr, OnOk, All};
 ghost use Rattle.al_view.specs.ViewUses.{link};
 ghost use Rattle.al_instr.specs.declared.instruction.Instr.TheVariants.{PutName, PutText};
@@ -23,7 +23,7 @@ use std::marker::Model;
 /// The most bytes of code that an image has.
 pub const MAX_CODE: usize = 16_777_216;
 
-/// Code that is being written, up to the limit: past it nothing is written any more.
+/// Code as it is written, up to the limit `MAX_CODE`. Past it nothing more is written.
 #[derive(Drop)]
 pub struct Output {
     alloc: Global,
@@ -37,15 +37,16 @@ pub struct Output {
     is_large: bool,
 }
 
-/// Code that was written.
+/// Code that has been written.
 #[derive(Drop)]
 pub struct Written {
+    /// Its bytes.
     pub code: Vec<u8>,
-    /// Where symbols are used, in the order of their places.
+    /// The symbols that are used, in the order of their places.
     pub uses: Vec<Relocation>,
-    /// Where symbols stand, in the order of their places.
+    /// The symbols that are defined, in the order of their places.
     pub defines: Vec<Address>,
-    /// From which places on it is of which lines, in the order in which these were marked.
+    /// The places from which on the code is of a line, in the order in which they were marked.
     pub lines: Vec<LineEntry>,
 }
 
@@ -63,7 +64,7 @@ impl Model for Output {
 }
 
 impl Output {
-    /// No code yet. It takes no memory.
+    /// No code so far. It takes no memory.
     pub fn new(alloc: Global) -> Output
         ensures { result ≡ Some empty }
     {
@@ -79,33 +80,33 @@ impl Output {
         }
     }
 
-    /// What takes its memory.
+    /// The allocator of the code.
     pub fn alloc(&self) -> Global {
         self.alloc
     }
 
-    /// How many bytes were written.
+    /// The number of bytes written.
     pub fn len(&self) -> usize
         ensures { IfSome self.now (λ b. result ≡ length b.code) }
     {
         self.code.len()
     }
 
-    /// Whether it passes the limit, so that nothing is written any more.
+    /// Whether the code has passed the limit, so that nothing more is written.
     pub fn is_large(&self) -> bool
         ensures { result ≡ is_none self.now }
     {
         self.is_large
     }
 
-    /// How many jumps wait for their ends.
+    /// The number of jumps whose ends aren't there yet.
     pub fn leaving(&self) -> usize
         ensures { WaitsAt self.now result }
     {
         self.leaving.len()
     }
 
-    /// What was written, and none where it passes the limit.
+    /// What was written, or none if the code has passed the limit.
     pub fn finish(self) -> Option<Written>
         ensures value { MatchOption result (self ≡ None) (λ w. IsSomeAnd self (λ b. (w.code.items ≡ b.code) × (w.uses.items ≡ b.uses) × (w.defines.items ≡ b.defines) × (w.lines.items ≡ b.lines))) }
         ensures code { IfSome result (λ w. IsCode w.code.items w.uses.items) }
@@ -123,7 +124,10 @@ impl Output {
         })
     }
 
-    /// One more instruction.
+    /// Writes an instruction.
+    ///
+    /// # Errors
+    /// `NoMemory` if the allocator refuses memory.
     #[tactic(auto, using(crate::proofs::Keeping::kept_whole), unfolding(crate::specs::Written::with_piece, crate::specs::Written::written))]
     pub fn put(&mut self, instr: &Instr) -> Result<(), NoMemory>
         requires { IsInstr instr.now }
@@ -137,7 +141,10 @@ impl Output {
         Ok(())
     }
 
-    /// One more instruction, whose first operand counts from where the symbol stands.
+    /// Writes an instruction whose first operand counts from the place of the symbol.
+    ///
+    /// # Errors
+    /// `NoMemory` if the allocator refuses memory.
     #[tactic(auto, using(crate::proofs::Keeping::kept_using), unfolding(crate::specs::Written::with_piece, crate::specs::Written::written))]
     pub fn emit_using(
         &mut self,
@@ -161,7 +168,10 @@ impl Output {
         Ok(())
     }
 
-    /// A jump whose end isn't there yet.
+    /// Writes a jump whose end isn't there yet.
+    ///
+    /// # Errors
+    /// `NoMemory` if the allocator refuses memory.
     #[tactic(auto, using(crate::proofs::Keeping::kept_leaving), unfolding(crate::specs::Written::with_piece, crate::specs::Written::written))]
     pub fn emit_leaving(&mut self, when: JumpCondition, target: Target) -> Result<(), NoMemory>
         ensures { OnOk result (self.new ≡ written self.old (Leaving when target ∷ [])) }
@@ -183,7 +193,10 @@ impl Output {
         Ok(())
     }
 
-    /// The symbol stands here.
+    /// Notes that the symbol is defined here.
+    ///
+    /// # Errors
+    /// `NoMemory` if the allocator refuses memory.
     #[tactic(auto, using(crate::proofs::Keeping::kept_begins), unfolding(crate::specs::Written::with_piece, crate::specs::Written::written))]
     pub fn begin(&mut self, kind: LinkKind, symbol: &Symbol) -> Result<(), NoMemory>
         requires { IsCodeKind kind }
@@ -199,7 +212,10 @@ impl Output {
         Ok(())
     }
 
-    /// From here on code is of this line.
+    /// Notes that from here on the code is of this line.
+    ///
+    /// # Errors
+    /// `NoMemory` if the allocator refuses memory.
     #[tactic(auto, unfolding(crate::specs::Written::with_piece, crate::specs::Written::written))]
     pub fn mark(&mut self, line: usize) -> Result<(), NoMemory>
         ensures { OnOk result (self.new ≡ written self.old (Line line ∷ [])) }
@@ -213,7 +229,10 @@ impl Output {
         Ok(())
     }
 
-    /// A jump back to this place, so many bytes back.
+    /// Writes a jump back to this place.
+    ///
+    /// # Errors
+    /// `NoMemory` if the allocator refuses memory.
     pub fn emit_back(&mut self, start: usize) -> Result<(), NoMemory>
         ensures { (n : ℕ) → IfSome self.old (λ b. length b.code ≡ start + n) → OnOk result (self.new ≡ written self.old (back n ∷ [])) }
     {
@@ -221,7 +240,10 @@ impl Output {
         self.put(&Instr::Jump(-(distance as i32)))
     }
 
-    /// A construct ends, in which the jumps from this one on were noted.
+    /// Ends a construct: fills in the jumps to its end, among those from the `first` on.
+    ///
+    /// # Errors
+    /// `NoMemory` if the allocator refuses memory.
     #[tactic(auto, using(crate::proofs::Keeping::kept_cut, crate::proofs::Keeping::kept_closed), unfolding(crate::specs::Written::ended))]
     pub fn close(&mut self, first: usize, construct: Construct) -> Result<(), NoMemory>
         ensures { OnOk result (self.new ≡ ended self.old first construct) }
@@ -237,7 +259,10 @@ impl Output {
         Ok(())
     }
 
-    /// One more instruction that puts out these bytes.
+    /// Writes an instruction that puts these bytes.
+    ///
+    /// # Errors
+    /// `NoMemory` if the allocator refuses memory.
     pub fn emit_text(&mut self, text: &[u8]) -> Result<(), NoMemory>
         ensures { OnOk result (self.new ≡ written self.old (Whole (PutText text.now) ∷ [])) }
     {
@@ -249,7 +274,10 @@ impl Output {
         self.put(&Instr::PutText(text))
     }
 
-    /// One more instruction that puts out one of these names.
+    /// Writes an instruction that puts one of these names.
+    ///
+    /// # Errors
+    /// `NoMemory` if the allocator refuses memory.
     pub fn emit_names(&mut self, below: u32, names: &[Name]) -> Result<(), NoMemory>
         ensures { OnOk result (self.new ≡ written self.old (Whole (PutName below (map printed names.now)) ∷ [])) }
     {
@@ -262,14 +290,14 @@ impl Output {
     }
 }
 
-/// A line as a word.
+/// A line number as a word.
 fn line_word(line: usize) -> u32
     ensures { result ≡ line_word line }
 {
     line.min(4_294_967_295).max(1) as u32
 }
 
-/// Appends the bytes of an instruction where they pass no limit, and tells whether that is so.
+/// Appends the bytes of an instruction if they pass no limit. Gives whether it did.
 fn append(bytes: &mut Vec<u8>, code: &mut Vec<u8>, instr: &Instr) -> Result<bool, NoMemory>
     requires { length code.old.items ≤ 16777216 }
     ensures fits { IfOk result (λ fits. fits ≡ nat_le (length code.old.items + length (encoded instr.now)) 16777216) }
@@ -285,7 +313,7 @@ fn append(bytes: &mut Vec<u8>, code: &mut Vec<u8>, instr: &Instr) -> Result<bool
     Ok(true)
 }
 
-/// The same, with a note on it.
+/// Appends the bytes of an instruction if they pass no limit, and then a note about it.
 fn append_noted<N: Drop>(
     bytes: &mut Vec<u8>,
     code: &mut Vec<u8>,

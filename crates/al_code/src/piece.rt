@@ -1,4 +1,4 @@
-// What is noted of code while it is written.
+// Notes about code as it is written.
 ghost use Rattle.std.specs.Prelude.{◌≡◌};
 ghost use Rattle.al_code.specs.Pieces.{jump_of};
 ghost use Rattle.al_code.specs.Targets.{outside};
@@ -8,42 +8,49 @@ use al_instr::Instr;
 /// When a jump is taken.
 #[derive(Clone, Copy)]
 pub enum JumpCondition {
+    /// Always.
     Always,
-    /// Where the word on top, which is popped, is 0.
+    /// If the word on top, which is popped, is 0.
     IfZero,
 }
 
-/// Where a jump leads whose end isn't there yet.
+/// The target of a forward jump.
 #[derive(Clone, Copy)]
 pub enum Target {
-    /// To the end of the test that it stands in: what follows where a condition doesn't hold.
+    /// The end of the innermost test: what follows if a condition doesn't hold.
     Next,
-    /// To the end of the `if`, `case` or short-circuit form that it stands in.
+    /// The end of the innermost `if`, `case` or short-circuit form.
     Join,
-    /// To the end of a loop, so many loops out.
+    /// The end of the loop that is so many loops further out.
     Loop(u32),
-    /// To the end of the statements of the routine.
+    /// The end of the routine's statements.
     Routine,
 }
 
-/// What ends.
+/// A construct that ends.
 #[derive(Clone, Copy)]
 pub enum Construct {
+    /// A test, with what depends on it.
     Test,
+    /// An `if`, `case` or short-circuit form.
     Choice,
+    /// A loop.
     Loop,
+    /// The statements of a routine.
     Routine,
 }
 
-/// A jump whose end isn't there yet, and the place of its first byte.
+/// A jump whose end isn't there yet.
 #[derive(Clone, Copy)]
 pub struct ForwardJump {
+    /// The place of its first byte.
     pub place: usize,
+    /// Where it leads.
     pub target: Target,
 }
 
 impl JumpCondition {
-    /// The jump that is taken then, over so many bytes.
+    /// The jump that this condition takes, over `distance` bytes.
     pub fn jump(self, distance: i32) -> Instr
         ensures { result ≡ jump_of self distance }
     {
@@ -55,7 +62,7 @@ impl JumpCondition {
 }
 
 impl Target {
-    /// The same target seen from outside of a construct; none where it is the end of that.
+    /// The target as it is outside of a construct; none if it is the end of that construct.
     pub fn outside(self, construct: Construct) -> Option<Target>
         ensures { result ≡ outside construct self }
     {

@@ -1,4 +1,4 @@
-// Short codes, of which templates are made.
+// Short rows of instructions, of which longer ones are made.
 ghost use Rattle.std.specs.Prelude.{◌≡◌, [], ◌∷◌, OnOk};
 ghost use Rattle.al_view.specs.declared.link.LinkKind.TheVariants.{Data, Flag};
 ghost use Rattle.al_instr.specs.declared.instruction.Instr.TheVariants.{Frame};
@@ -11,35 +11,50 @@ use al_base::NoMemory;
 use al_instr::{Instr, Plain, Sized};
 use al_view::{Bounds, LinkKind, ObjectPlace};
 
-/// An instruction without operands.
+/// Writes an instruction without operands.
+///
+/// # Errors
+/// `NoMemory` if the allocator refuses memory.
 pub fn emit_plain(out: &mut Output, plain: Plain) -> Result<(), NoMemory>
     ensures { OnOk result (out.new ≡ written out.old (one plain)) }
 {
     out.put(&Instr::Plain(plain))
 }
 
-/// An instruction with a number of words, an offset or a code.
+/// Writes an instruction with a number of words, an offset or a code.
+///
+/// # Errors
+/// `NoMemory` if the allocator refuses memory.
 pub fn emit_sized(out: &mut Output, sized: Sized, number: u32) -> Result<(), NoMemory>
     ensures { OnOk result (out.new ≡ written out.old (of_size sized number)) }
 {
     out.put(&Instr::Sized(sized, number))
 }
 
-/// A word.
+/// Writes the load of a constant word.
+///
+/// # Errors
+/// `NoMemory` if the allocator refuses memory.
 pub fn emit_number(out: &mut Output, word: i64) -> Result<(), NoMemory>
     ensures { OnOk result (out.new ≡ written out.old (number word)) }
 {
     out.put(&Instr::Const(word))
 }
 
-/// The address of a word of the frame.
+/// Writes the address of a word of the frame.
+///
+/// # Errors
+/// `NoMemory` if the allocator refuses memory.
 pub fn emit_slot(out: &mut Output, word: u32) -> Result<(), NoMemory>
     ensures { OnOk result (out.new ≡ written out.old (slot word)) }
 {
     out.put(&Instr::Frame { depth: 0, word })
 }
 
-/// The word on top goes to a word of the frame.
+/// Writes the store of the word on top to a word of the frame.
+///
+/// # Errors
+/// `NoMemory` if the allocator refuses memory.
 #[tactic(auto, using(crate::proofs::Writing::written_append), unfolding(crate::specs::ExprPieces::store_slot))]
 pub fn emit_store_slot(out: &mut Output, word: u32) -> Result<(), NoMemory>
     ensures { OnOk result (out.new ≡ written out.old (store_slot word)) }
@@ -48,7 +63,10 @@ pub fn emit_store_slot(out: &mut Output, word: u32) -> Result<(), NoMemory>
     emit_sized(out, Sized::Store, 1)
 }
 
-/// A word of the frame.
+/// Writes the load of a word of the frame.
+///
+/// # Errors
+/// `NoMemory` if the allocator refuses memory.
 #[tactic(auto, using(crate::proofs::Writing::written_append), unfolding(crate::specs::ExprPieces::load_slot))]
 pub fn emit_load_slot(out: &mut Output, word: u32) -> Result<(), NoMemory>
     ensures { OnOk result (out.new ≡ written out.old (load_slot word)) }
@@ -57,7 +75,10 @@ pub fn emit_load_slot(out: &mut Output, word: u32) -> Result<(), NoMemory>
     emit_sized(out, Sized::Load, 1)
 }
 
-/// The check against the bounds of a scalar subtype.
+/// Writes the check against the bounds of a scalar subtype, if it has bounds.
+///
+/// # Errors
+/// `NoMemory` if the allocator refuses memory.
 #[tactic(auto, using(crate::proofs::Writing::written_nothing))]
 pub fn emit_check(out: &mut Output, bounds: &Option<Bounds>) -> Result<(), NoMemory>
     ensures { OnOk result (out.new ≡ written out.old (check_code bounds.now)) }
@@ -71,7 +92,10 @@ pub fn emit_check(out: &mut Output, bounds: &Option<Bounds>) -> Result<(), NoMem
     }
 }
 
-/// The address of an object, in a body of so much nesting.
+/// Writes the address of an object, in a body of nesting depth `depth`.
+///
+/// # Errors
+/// `NoMemory` if the allocator refuses memory.
 pub fn emit_place(out: &mut Output, depth: u32, place: &ObjectPlace) -> Result<(), NoMemory>
     ensures { OnOk result (out.new ≡ written out.old (place_code Data depth place.now)) }
 {
@@ -83,7 +107,10 @@ pub fn emit_place(out: &mut Output, depth: u32, place: &ObjectPlace) -> Result<(
     }
 }
 
-/// The address of a flag, in a body of so much nesting.
+/// Writes the address of a flag, in a body of nesting depth `depth`.
+///
+/// # Errors
+/// `NoMemory` if the allocator refuses memory.
 pub fn emit_flag_place(out: &mut Output, depth: u32, place: &ObjectPlace) -> Result<(), NoMemory>
     ensures { OnOk result (out.new ≡ written out.old (place_code Flag depth place.now)) }
 {
@@ -95,21 +122,27 @@ pub fn emit_flag_place(out: &mut Output, depth: u32, place: &ObjectPlace) -> Res
     }
 }
 
-/// The address of a word of the frame so many static links out.
+/// Writes the address of a word of the frame that is so many static links out.
 fn emit_outer(out: &mut Output, depth: u32, word: u32) -> Result<(), NoMemory>
     ensures { OnOk result (out.new ≡ written out.old (Whole (Frame depth word) ∷ [])) }
 {
     out.put(&Instr::Frame { depth, word })
 }
 
-/// To the end of the choice that it stands in.
+/// Writes a jump to the end of the innermost `if`, `case` or short-circuit form.
+///
+/// # Errors
+/// `NoMemory` if the allocator refuses memory.
 pub fn emit_join(out: &mut Output) -> Result<(), NoMemory>
     ensures { OnOk result (out.new ≡ written out.old join) }
 {
     out.emit_leaving(JumpCondition::Always, Target::Join)
 }
 
-/// Past what follows where the word on top is 0.
+/// Writes a jump to the end of the innermost test, taken if the word on top is 0.
+///
+/// # Errors
+/// `NoMemory` if the allocator refuses memory.
 pub fn emit_unless_zero(out: &mut Output) -> Result<(), NoMemory>
     ensures { OnOk result (out.new ≡ written out.old unless_zero) }
 {

@@ -13,14 +13,14 @@ use al_instr::{Instr, Plain, Protected, Sized};
 use al_view::{LinkKind, ObjectPlace, Symbol};
 use al_view_typed::EntryOf;
 
-/// What is done to a protected object.
+/// Writes an action on a protected object.
 pub(crate) fn emit_act(out: &mut Output, what: Protected, object: &Symbol) -> Result<(), NoMemory>
     ensures { OnOk result (out.new ≡ written out.old (act_code what object.now)) }
 {
     out.emit_using(&Instr::Protected(what, 0), LinkKind::Protected, object)
 }
 
-/// The value of a barrier.
+/// Writes the value of a barrier.
 #[tactic(auto, using(crate::proofs::Writing::written_append), unfolding(crate::specs::Routines::barrier_code))]
 fn emit_barrier(out: &mut Output, depth: u32, barrier: &ObjectPlace) -> Result<(), NoMemory>
     ensures { OnOk result (out.new ≡ written out.old (barrier_code depth barrier.now)) }
@@ -29,7 +29,7 @@ fn emit_barrier(out: &mut Output, depth: u32, barrier: &ObjectPlace) -> Result<(
     emit_sized(out, Sized::Load, 1)
 }
 
-/// The body of an entry is called.
+/// Writes the call of an entry's body.
 #[tactic(auto, using(crate::proofs::Writing::written_append), unfolding(crate::specs::Routines::entry_call_code))]
 fn emit_entry_call(out: &mut Output, entry: &Symbol) -> Result<(), NoMemory>
     ensures { OnOk result (out.new ≡ written out.old (entry_call_code entry.now)) }
@@ -39,7 +39,7 @@ fn emit_entry_call(out: &mut Output, entry: &Symbol) -> Result<(), NoMemory>
     out.emit_using(&call, LinkKind::EntryBody, entry)
 }
 
-/// Who waits at the entry is served where its barrier is open (ARM 9.5.3).
+/// Writes that those who wait at the entry are served if its barrier is open (ARM 9.5.3).
 #[tactic(auto, using(crate::proofs::Writing::written_append, crate::proofs::Writing::written_nothing), unfolding(crate::specs::Routines::served_code))]
 pub(crate) fn emit_served(
     out: &mut Output,
@@ -58,7 +58,7 @@ pub(crate) fn emit_served(
     }
 }
 
-/// What is done where somebody waits.
+/// Writes what is done if a task waits at the entry.
 fn emit_open(out: &mut Output, depth: u32, object: &Symbol, entry: &EntryOf) -> Result<(), NoMemory>
     ensures { OnOk result (out.new ≡ written out.old (guarded (barrier_code depth entry.now.barrier ++ guarded (entry_call_code entry.now.entry ++ act_code Wake object.now)))) }
 {
@@ -70,7 +70,7 @@ fn emit_open(out: &mut Output, depth: u32, object: &Symbol, entry: &EntryOf) -> 
     Ok(())
 }
 
-/// What is done where the barrier is open too.
+/// Writes what is done if a task waits and the barrier is open.
 fn emit_woken(out: &mut Output, object: &Symbol, entry: &Symbol) -> Result<(), NoMemory>
     ensures { OnOk result (out.new ≡ written out.old (guarded (entry_call_code entry.now ++ act_code Wake object.now))) }
 {
@@ -82,7 +82,7 @@ fn emit_woken(out: &mut Output, object: &Symbol, entry: &Symbol) -> Result<(), N
     Ok(())
 }
 
-/// The gate of an entry: its body is called where the barrier is open, and else the caller waits.
+/// Writes the gate of an entry: its body is called if the barrier is open, and else the caller waits.
 #[tactic(auto, using(crate::proofs::Writing::written_append), unfolding(crate::specs::Routines::gate_code))]
 pub(crate) fn emit_gate(
     out: &mut Output,
@@ -100,7 +100,7 @@ pub(crate) fn emit_gate(
     emit_sized(out, Sized::Return, 0)
 }
 
-/// What is done where the barrier is open.
+/// Writes what is done if the barrier is open.
 fn emit_passed(out: &mut Output, entry: &Symbol) -> Result<(), NoMemory>
     ensures { OnOk result (out.new ≡ written out.old (guarded (entry_call_code entry.now ++ one Leave ++ of_size Return 0))) }
 {

@@ -2,15 +2,17 @@
 ghost use Rattle.std.specs.Prelude.{◌≡◌};
 ghost use Rattle.al_code.specs.Routines.{unlocking, within};
 
-/// The body that statements stand in: its depth of nesting, and whether a return of it leaves a protected object.
+/// The body that encloses statements: its nesting depth, and whether a return from it leaves a protected object.
 #[derive(Clone, Copy)]
 pub struct Routine {
+    /// Its nesting depth: the number of bodies that enclose a place in it.
     pub depth: u32,
+    /// Whether a return from it leaves a protected object.
     pub unlocks: bool,
 }
 
 impl Routine {
-    /// A body of this depth whose returns leave no protected object.
+    /// A body of this nesting depth whose returns leave no protected object.
     pub fn within(depth: u32) -> Routine
         ensures { result ≡ within depth }
     {
@@ -20,7 +22,7 @@ impl Routine {
         }
     }
 
-    /// A function of a protected object, of this depth.
+    /// The body of a protected function, of this nesting depth.
     pub fn unlocking(depth: u32) -> Routine
         ensures { result ≡ unlocking depth }
     {

@@ -15,7 +15,7 @@ use al_base::NoMemory;
 use al_instr::{Plain, Sized};
 use al_view_typed::{CheckedValue, Typed, TypedName};
 
-/// An assignment (ARM 5.2).
+/// Writes an assignment (ARM 5.2).
 #[tactic(auto, using(crate::proofs::Writing::written_append))]
 pub(crate) fn emit_assignment(
     out: &mut Output,
@@ -31,7 +31,7 @@ pub(crate) fn emit_assignment(
     emit_sized(out, Sized::Store, words)
 }
 
-/// A return statement (ARM 6.5).
+/// Writes a return statement (ARM 6.5).
 #[tactic(auto, using(crate::proofs::Writing::written_append))]
 pub(crate) fn emit_return(
     out: &mut Output,
@@ -51,7 +51,7 @@ pub(crate) fn emit_return(
     }
 }
 
-/// A function of a protected object leaves that before it returns.
+/// Writes that a protected function leaves its object before it returns.
 #[tactic(auto, using(crate::proofs::Writing::written_nothing))]
 fn emit_unlocked(out: &mut Output, unlocks: bool) -> Result<(), NoMemory>
     ensures { OnOk result (out.new ≡ written out.old (unlocked_code unlocks)) }
@@ -62,7 +62,7 @@ fn emit_unlocked(out: &mut Output, unlocks: bool) -> Result<(), NoMemory>
     Ok(())
 }
 
-/// `delay until moment;` (ARM 9.6)
+/// Writes `delay until moment;` (ARM 9.6).
 #[tactic(auto, using(crate::proofs::Writing::written_append))]
 pub(crate) fn emit_delay(out: &mut Output, depth: u32, moment: &Typed) -> Result<(), NoMemory>
     ensures { OnOk result (out.new ≡ written out.old (value_of depth (typed_model moment.now) ++ one Sleep)) }

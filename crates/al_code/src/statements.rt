@@ -1,4 +1,4 @@
-// Statements: what recurses (ARM 5.1).
+// Statements: the part that recurses (ARM 5.1).
 ghost use Rattle.std.specs.Prelude.{◌≡◌, OnOk, map};
 ghost use Rattle.al_view_typed.specs.StatementViews.{alternative_model, alternatives_of, branch_model, branches_of, scheme_model, statement_form_model, statement_model, statements_of};
 ghost use Rattle.al_code.specs.Written.{written};
@@ -17,7 +17,7 @@ use al_base::NoMemory;
 use al_instr::Sized;
 use al_view_typed::{Alternative, Branch, LoopScheme, StatementForm, TypedStatement};
 
-/// Statements one after another.
+/// Writes statements one after another.
 #[cycle(statement)]
 pub(crate) fn emit_statements(
     out: &mut Output,
@@ -112,7 +112,7 @@ fn emit_statement_form(
     }
 }
 
-/// Branches one after another.
+/// Writes branches one after another.
 #[cycle(statement)]
 fn emit_branches(out: &mut Output, routine: Routine, branches: &[Branch]) -> Result<(), NoMemory>
     ensures { OnOk result (out.new ≡ written out.old (branches_code routine (branches_of (map branch_model branches.now)))) }
@@ -137,7 +137,7 @@ fn emit_branch(out: &mut Output, routine: Routine, branch: &Branch) -> Result<()
     Ok(())
 }
 
-/// Alternatives one after another, by the value in a word of the frame.
+/// Writes alternatives one after another, by the value in a word of the frame.
 #[cycle(statement)]
 fn emit_alternatives(
     out: &mut Output,
@@ -171,7 +171,7 @@ fn emit_alternative(
     Ok(())
 }
 
-/// The statements of `others`, where there are any.
+/// Writes the statements of `others`, if there is that choice.
 #[cycle(statement)]
 fn emit_others(
     out: &mut Output,
@@ -187,7 +187,7 @@ fn emit_others(
     emit_join(out)
 }
 
-/// What a loop does again and again.
+/// Writes what a loop repeats.
 #[cycle(statement)]
 fn emit_round(
     out: &mut Output,

@@ -1,4 +1,4 @@
-// Names that a program puts out.
+// Names of enumeration literals, as a program puts them.
 ghost use Rattle.std.specs.Prelude.{◌≡◌, ◌≤◌, length, map, IfOk, All};
 ghost use Rattle.al_instr.specs.Codes.{IsName};
 ghost use Rattle.al_code.specs.Pieces.{printed};

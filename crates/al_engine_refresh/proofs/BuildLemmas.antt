@@ -222,7 +222,7 @@ module _ (meaning : TextMeaning) (header : List ℕ → Header) (lib : Library) 
       unfolding f
       next-by count after h = next count after (moved-handled count after h)
 
-  -- where all units are done the build is what it should be
+  -- if all units are done, the build is what it should be
   module _ (new : UnitKey → Option Stored) (order checked : List UnitKey) (o : IsOrder s is.rank order) (p : Going new order [] checked) where
     abbrev end : UnitKey → Option Outcome
     end = results_of new

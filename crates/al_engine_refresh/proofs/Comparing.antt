@@ -1,4 +1,4 @@
--- How many stored answers were compared, where one unit more moved.
+-- How many stored answers were compared, if one unit more moved.
 use Rattle.std.proofs.Common.{◌≡◌, ◌+◌, ◌||◌, ℕ, Bool, true, false, [], Option, Some, None, refl, sym, ◌∙◌, ap, subst, is_some, slice_get, arith, if◌then◌else◌}
 use Rattle.std.specs.List.{IsDistinct}
 use Rattle.std.specs.Option.{option_and_then, option_map}
@@ -107,7 +107,7 @@ module _ (f : State Stored → State Stored) (unit : UnitKey) (old mid new : Ent
     rises ∙ ap (λ (x : ℕ). raised x k) is.2 ∙ raised-twice is.0 k,
   )
 
--- where no unit moved nothing was compared
+-- if no unit moved, nothing was compared
 pub compared-none : (store : Entries) → ((u : UnitKey) → has_moved store u ≡ false) → IsCompared store 0
 unfolding IsDistinct
 compared-none store still = (
@@ -132,6 +132,6 @@ differ-same : (b : Bool) → differ b b ≡ false
 differ-same true = refl
 differ-same false = refl
 
--- where nothing was made since the last build no unit moved
+-- if nothing was made since the last build, no unit moved
 pub quiet-unmoved : (store : Entries) → AreQuiet store → (u : UnitKey) → has_moved store u ≡ false
 quiet-unmoved store quiet u = ap moved_of (quiet u) ∙ differ-same (state store u).was_reached

@@ -10,7 +10,7 @@ use Rattle.al_unit_graph.specs.Headers.{Library}
 use Rattle.al_unit_faults.specs.GraphFaults.{file_faults}
 use Rattle.al_engine_refresh.specs.Found.{file_findings, findings_of, told_of}
 
--- the findings of files with their faults
+-- the diagnostics of files with their errors
 abbrev pub told_in : Library → (UnitKey → Option Outcome) → List ℕ × List Finding → List Finding
 told_in lib f file = told_of lib f file.0 file.1
 

@@ -1,5 +1,5 @@
--- What entries keep, as a checker that keeps the reads law whatever the table: where a table agrees with a unit's log, the outcome
--- is the entry's; where it doesn't, there is no outcome to speak of.
+-- What entries keep, as a checker that keeps the reads law whatever the table: if a table agrees with a unit's log, the outcome is the entry's; if
+-- it doesn't, any outcome will do.
 use Rattle.std.proofs.Common.{◌≡◌, ◌⊎◌, inl, inr, ℕ, Bool, true, false, List, [], ◌∷◌, ◌++◌, Option, Some, None, refl, sym, ◌∙◌, ap, subst}
 use Rattle.std.specs.List.{list_all}
 use Rattle.std.specs.Str.{bytes_eq}
@@ -75,7 +75,7 @@ heard-others t u (e ∷ es) o =
     at (inl k) first rest = and_both (is_of_another u e.0) (list_all (λ (x : Query × AnswerKind). is_of_another u x.0) (heard t es)) first rest
     at (inr k) first rest = and_both (is_of_another u e.0) true first refl
 
--- the outcome of an entry, where a table agrees with its log
+-- the outcome of an entry, if a table agrees with its log
 abbrev by_log : Outcome → (log : Log) (t : Table) → Agrees t log ⊎ (Agrees t log → ⊥) → Outcome
 by_log o log t (inl a) = o
 by_log o log t (inr n) = Faulty []
@@ -88,7 +88,7 @@ abbrev outcome_by : Option Stored → List ℕ → Table → Outcome
 outcome_by None text t = Faulty []
 outcome_by (Some e) text t = by_text e t (bytes_eq e.text text)
 
--- the outcomes of entries, for these texts
+-- the outcomes of entries, for these sources
 abbrev pub kept : (UnitKey → Option Stored) → (UnitKey → List ℕ) → Meaning
 kept at texts u t = outcome_by (at u) (texts u) t
 
@@ -142,7 +142,7 @@ module _ (meaning : TextMeaning) (header : List ℕ → Header) (u : UnitKey) wh
   any_check None k text t = no_check (header text) t
   any_check (Some e) k text t = checked_by e (k e refl) text t (bytes_eq e.text text) refl
 
-  -- where an entry is used its log is the check's
+  -- if an entry is used, its log is the check's
   log_by : (e : Stored) (k : KeepsLaw meaning header u e) (text : List ℕ) (t : Table) (b : Bool) (is : bytes_eq e.text text ≡ b) → b ≡ true → Agrees t e.log → (checked_by e k text t b is).0 ≡ e.log
   unfolding checked_by entry_check
   log_by e k text t true is used a = heard-same t e.log a
@@ -161,7 +161,7 @@ kept-keeps meaning header at texts law u t =
     let c = any_check meaning header u (at u) (law u) (texts u) t in
     record { log = c.0; agrees = c.1; reads = c.2; others = c.3; grounded = c.4; names = c.5 }
 
--- of an entry for the text whose answers a table gives, the check has the log
+-- for an entry for the source whose answers a table gives, the check has the log
 pub kept-log : (meaning : TextMeaning) (header : List ℕ → Header) (at : UnitKey → Option Stored) (texts : UnitKey → List ℕ) (law : AllKeepLaw meaning header at) (u : UnitKey) (t : Table) (e : Stored) → at u ≡ Some e → IsCurrent e (texts u) t → (kept-keeps meaning header at texts law u t).log ≡ e.log
 unfolding kept-keeps
 kept-log meaning header at texts law u t e is c = log_of meaning header u (at u) (law u) (texts u) t e is c

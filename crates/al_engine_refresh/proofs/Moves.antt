@@ -42,7 +42,7 @@ module _ (meaning : TextMeaning) (header : List ℕ → Header) (lib : Library) 
     pub valid : (d : UnitKey) → fl d ≡ true → is.rank d < n → IsValid at f d × (f d ≡ results_of at d)
     pub none : (d : UnitKey) → fl d ≡ false → f d ≡ None
 
-  -- where all on which a unit depends is the same, it is reached alike
+  -- if all that a unit depends on is the same, it is reached alike
   pub reached-alike : (u : UnitKey) (f g : UnitKey → Option Outcome) → SameBelow (is.rank u) f g → is_reached S f u ≡ is_reached S g u
   reached-alike u f g same =
       elim (tested (fl u)) as (λ _. is_reached S f u ≡ is_reached S g u) [

@@ -28,7 +28,7 @@ use Rattle.al_engine_refresh.proofs.LoopLemmas.{done-at, rest-at}
 pub unreached-none : (store : Entries) (u : UnitKey) → (state store u).is_reached ≡ false → now_at store u ≡ None
 unreached-none store u e = ap (λ (b : Bool). if b then first_of (entry_of (state store u).made) (entry_of (state store u).settled) else None) e
 
--- what is settled stays where it is left as it is
+-- what is settled stays if it is left as it is
 pub settled-left : (old new : Entries) → IsLeft old new → (u : UnitKey) → settled_at new u ≡ settled_at old u
 settled-left old new left u = sym (entry-base (state new u).settled) ∙ ap (λ (s : State Stored). entry_of s.settled) (left u) ∙ entry-base (state old u).settled
 
@@ -74,7 +74,7 @@ module _ (meaning : TextMeaning) (header : List ℕ → Header) (lib : Library) 
   next-now store new done rest checked more u p out laws count after handled =
       next-by meaning header lib fl pre is old (within done (now_at store)) (within (done ++ u ∷ []) (now_at new)) done rest checked more u p laws (results_of (now_at store)) (fits-now store done (u ∷ rest) checked p out) count after handled
 
-  -- one unit more of an order that stands after others
+  -- one unit more of an order that comes after others
   pub next-rest : (store new : Entries) (before order checked more : List UnitKey) (i : ℕ) (u : UnitKey) → i < length order → u ≡ get_or order i u → ((v : UnitKey) → has_unit (before ++ order) v ≡ false → now_at store v ≡ None) → AllKeepLaw meaning header old
       → Progress meaning header lib fl pre is old (within (before ++ take i order) (now_at store)) (before ++ take i order) (drop i order) checked → (count after : ℕ)
       → (has_unit (before ++ take i order) u ≡ false
@@ -97,7 +97,7 @@ module _ (meaning : TextMeaning) (header : List ℕ → Header) (lib : Library) 
       by true e = ap (λ (b : Bool). if b then now_at store u else None) e
       by false e = ap (λ (b : Bool). if b then now_at store u else None) e ∙ sym (out u e)
 
-  -- where all units are done the build is what it should be
+  -- if all units are done, the build is what it should be
   pub built-end : (store : Entries) (order rest checked : List UnitKey) → IsOrder S is.rank order → rest ≡ [] → ((u : UnitKey) → has_unit order u ≡ false → now_at store u ≡ None) → Progress meaning header lib fl pre is old (within order (now_at store)) order rest checked → IsBuilt meaning header S old (now_at store) order checked
   built-end store order rest checked o none out p =
       subst (λ (at : UnitKey → Option Stored). IsBuilt meaning header S old at order checked) (λ j u. whole-now store order out u j)

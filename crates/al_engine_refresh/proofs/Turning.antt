@@ -25,7 +25,7 @@ module _ (pre : Query → AnswerKind) (f : State Stored → State Stored) (unit 
     marks = marks-follow pre f unit old mid new changes keeps compares;
   }
 
-  -- what the last build left is as it was, where only what was made or is reached is changed
+  -- what the last build left is as it was, if only what was made or is reached is changed
   pub left-by : ((s : State Stored) → left_by_last (f s) ≡ left_by_last s) → ((u : UnitKey) → base_state (state new u) ≡ base_state (state mid u)) → IsLeft old new
   left-by stays based u = sym (twice (state new u)) ∙ ap left_by_last (based u) ∙ twice (state mid u) ∙ ap left_by_last (changes u) ∙ by (same_unit unit u)
     where
@@ -43,19 +43,19 @@ module _ (pre : Query → AnswerKind) (f : State Stored → State Stored) (unit 
       by true = stays (state old u)
       by false = refl
 
--- two things that hold where a call succeeds
+-- two properties that hold if a call succeeds
 pub on_ok_two : {A E : Type 0} (r : Result A E) (P Q R : Type 0) → (P → Q → R) → OnOk r P → OnOk r Q → OnOk r R
 on_ok_two (Ok a) P Q R f p q = f p q
 on_ok_two (Err e) P Q R f p q = tt
 
--- two tests that are told apart
+-- two tests, each by itself
 pub beq-apart : (a b : Bool) → beq a b ≡ false → a ≡ b → ⊥
 beq-apart true true h e = true≢false h
 beq-apart true false h e = true≢false e
 beq-apart false true h e = true≢false (sym e)
 beq-apart false false h e = true≢false h
 
--- a unit that hasn't moved moves where it is reached another way
+-- a unit that hasn't moved moves if whether it is reached changes
 pub reached-moves : (m l w r b : Bool) → (m || l || differ w r) ≡ false → (r ≡ b → ⊥) → (m || l || differ w b) ≡ true
 reached-moves true l w r b h d = absurd (true≢false h)
 reached-moves false true w r b h d = absurd (true≢false h)

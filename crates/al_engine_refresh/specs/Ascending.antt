@@ -1,4 +1,4 @@
--- The order of what is found wrong.
+-- The order of diagnostics.
 use Rattle.std.specs.Prelude.{Option}
 use Rattle.std.specs.List.Sorted.{IsStrictlySortedBy}
 use Rattle.std.specs.Map.{keys_of}
@@ -9,6 +9,6 @@ use Rattle.al_unit_faults.specs.Orders.{finding_cmp}
 use Rattle.al_query_outcome.specs.Results.{Outcome}
 use Rattle.al_engine_refresh.specs.Found.{findings_of}
 
--- where the names of the files ascend, what is found ascends by file, place and number, so nothing is told twice
+-- if the names of the files are sorted, the diagnostics are sorted by file, place and number, so none is reported twice
 abbrev pub FindingsAscend : Type 0
 FindingsAscend = (lib : Library) (f : UnitKey → Option Outcome) → IsStrictlySortedBy name_cmp (keys_of lib) → IsStrictlySortedBy finding_cmp (findings_of lib f)

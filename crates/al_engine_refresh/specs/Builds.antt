@@ -1,4 +1,4 @@
--- What a build of a library's units makes of the entries before it.
+-- The entries after a build of a library's units, from those before it.
 use Rattle.std.specs.Prelude.{◌≡◌, ℕ, ◌+◌, ◌-◌, ◌<◌, ◌^◌, Bool, true, false, List, [], ◌∷◌, ◌++◌, ⊤, Option, None, nat_le, if◌then◌else◌}
 use Rattle.std.specs.List.{list_all}
 use Rattle.std.specs.Option.{option_map, option_map_or}
@@ -25,19 +25,19 @@ results_of at u = option_map outcome_of (at u)
 abbrev pub present : (Query → AnswerKind) → (UnitKey → Option Outcome) → Query → AnswerKind
 present predefined f q = if has_unit predefined_units (unit_of q) then predefined q else entry (f (unit_of q)) q
 
--- the text of a unit's file; no bytes where it has none
+-- the source in a unit's file; no bytes if it has no file
 abbrev pub text_of : Library → UnitKey → List ℕ
 text_of lib u = option_map_or (λ source. source.text) (source_at lib (file_name_of (key_of u))) []
 
--- the outcome of each unit with the text that a library has
+-- the outcome of each unit with the source that a library has
 abbrev pub with_texts : TextMeaning → Library → Meaning
 with_texts meaning lib u t = meaning u (text_of lib u) t
 
--- whether all on which a unit depends by itself is sound
+-- whether each unit that a unit depends on directly is without errors
 abbrev pub has_sound_dependences : Library → (UnitKey → Option Outcome) → UnitKey → Bool
 has_sound_dependences lib f u = list_all (λ k. is_sound (f (unit_named k))) (direct lib (key_of u))
 
--- a library, with what its texts say, which of its units break no rule of the graph, and the predefined units' answers
+-- a library, with the headers of its sources, the units that break no rule of the graph, and the predefined units' answers
 abbrev pub setting : (List ℕ → Header) → Library → (UnitKey → Bool) → (Query → AnswerKind) → Setting
 setting header lib is_faultless predefined = record { files = lib; header_of = λ u. header (text_of lib u); is_faultless = is_faultless; predefined = predefined }
 
@@ -47,22 +47,22 @@ StandsAfter s rank before [] = ⊤
 StandsAfter s rank before (u ∷ us) =
     (has_unit before u ≡ false) × (s.is_faultless u ≡ true) × ((d : UnitKey) → s.is_faultless d ≡ true → rank d < rank u → has_unit before d ≡ true) × StandsAfter s rank (before ++ u ∷ []) us
 
--- an order of dependence: all units that break no rule, each after all on which it depends
+-- an order of dependence: all units that break no rule, each after all that it depends on
 pub record IsOrder (s : Setting) (rank : UnitKey → ℕ) (order : List UnitKey) : Type 0 where
   pub after : StandsAfter s rank [] order
   pub whole : (u : UnitKey) → s.is_faultless u ≡ true → has_unit order u ≡ true
 
--- those units of a list for which something holds
+-- the units of a list for which something holds
 pub data Picked (P : UnitKey → Type 0) : List UnitKey → List UnitKey → Type 0 where
   no_units : Picked P [] []
   taken : {u : UnitKey} {us vs : List UnitKey} → P u → Picked P us vs → Picked P (u ∷ us) (u ∷ vs)
   left : {u : UnitKey} {us vs : List UnitKey} → (P u → ⊥) → Picked P us vs → Picked P (u ∷ us) vs
 
--- a unit is reached, and there was no entry for its text, or one with an answer that differs under the table of a map
+-- a unit is reached, and there was no entry for its source, or one with an answer that differs under the table of a map
 abbrev pub NeedsCheck : Setting → (UnitKey → Option Stored) → (UnitKey → List ℕ) → (UnitKey → Option Outcome) → UnitKey → Type 0
 NeedsCheck s old text f u = (is_reached s f u ≡ true) × (HasCurrent (old u) (text u) (table s f) → ⊥)
 
--- so many more, to the greatest number of 64 bits
+-- the sum of the two, at most the greatest number of 64 bits
 abbrev pub raised : ℕ → ℕ → ℕ
 raised n k = if nat_le (n + k) (2 ^ 64 - 1) then n + k else 2 ^ 64 - 1
 
@@ -73,8 +73,8 @@ pub record IsBuilt (meaning : TextMeaning) (header : List ℕ → Header) (s : S
   -- the outcomes solve the equations of the library, and no others do
   pub solves : Solves (with_texts meaning s.files) s (results_of new)
   pub only : (g : UnitKey → Option Outcome) → Solves (with_texts meaning s.files) s g → (u : UnitKey) → g u ≡ results_of new u
-  -- a unit that is reached has an entry for its text with the answers of now; no other unit has one
+  -- a unit that is reached has an entry for its source with the current answers; no other unit has one
   pub current : (u : UnitKey) → is_reached s (results_of new) u ≡ true → HasCurrent (new u) (text_of s.files u) (table s (results_of new))
   pub unreached : (u : UnitKey) → is_reached s (results_of new) u ≡ false → new u ≡ None
-  -- exactly those were checked that had no such entry before
+  -- the units that were checked are those that had no such entry before
   pub rechecked : Picked (NeedsCheck s old (text_of s.files) (results_of new)) order checked

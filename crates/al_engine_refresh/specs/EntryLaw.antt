@@ -12,7 +12,7 @@ use Rattle.al_query_outcome.specs.Results.{Outcome}
 use Rattle.al_query_outcome.specs.Words.{words_of}
 use Rattle.al_engine_refresh.specs.Stored.{Stored, outcome_of}
 
--- the outcome of a unit with a text under a table of answers
+-- the outcome of a unit with a source under a table of answers
 abbrev pub TextMeaning : Type 0
 TextMeaning = UnitKey → List ℕ → (Query → AnswerKind) → Outcome
 
@@ -20,14 +20,14 @@ TextMeaning = UnitKey → List ℕ → (Query → AnswerKind) → Outcome
 pub record KeepsLaw (meaning : TextMeaning) (header : List ℕ → Header) (u : UnitKey) (e : Stored) : Type 0 where
   -- under every table that agrees with the log the outcome is the unit's
   pub reads : (t : Query → AnswerKind) → Agrees t e.log → outcome_of e ≡ meaning u e.text t
-  -- each question is of another unit, which the text or an earlier answer names
+  -- each question is of another unit, which the source or an earlier answer names
   pub others : AsksOthers u e.log
   pub grounded : Grounded (named_by (header e.text)) e.log
-  -- and is for a property, or by a word of the text, or by a name that an answer before it told
+  -- and is for a property, or for a word of the source, or for a name that is in an earlier answer
   pub words : AsksByNames u (words_of e.text) e.log
   -- the outcome names only these units and its own
   pub names : NamesOnly (u ∷ known_after (named_by (header e.text)) e.log) (outcome_of e)
-  -- what the linker needs, and where faults lie
+  -- what the linker needs, and the places of errors
   pub uses : UsesOnly u e.log (outcome_of e)
   pub defines : DefinesOwn u (outcome_of e)
   pub shows : ShowsOnly u e.log (outcome_of e)
@@ -35,11 +35,11 @@ pub record KeepsLaw (meaning : TextMeaning) (header : List ℕ → Header) (u : 
   pub code : HasCode u (outcome_of e)
   pub faults : FaultsFit u (outcome_of e)
 
--- each entry keeps it
+-- each entry keeps the reads law
 abbrev pub AllKeepLaw : TextMeaning → (List ℕ → Header) → (UnitKey → Option Stored) → Type 0
 AllKeepLaw meaning header at = (u : UnitKey) (e : Stored) → at u ≡ Some e → KeepsLaw meaning header u e
 
--- an entry is for the text, and a table gives each recorded question its recorded answer
+-- an entry is for the source, and a table gives each recorded question its recorded answer
 abbrev pub IsCurrent : Stored → List ℕ → (Query → AnswerKind) → Type 0
 IsCurrent e text t = (e.text ≡ text) × Agrees t e.log
 

@@ -1,4 +1,4 @@
--- What a build finds wrong with the files of a library.
+-- The diagnostics that a build gives for the files of a library.
 use Rattle.std.specs.Prelude.{ℕ, List, [], ◌∷◌, map, Option, Some, None}
 use Rattle.std.specs.List.{flat_map}
 use Rattle.std.specs.Map.{keys_of}
@@ -14,29 +14,29 @@ use Rattle.al_unit_faults.specs.Spots.{finding_at, spot_of}
 use Rattle.al_query_outcome.specs.Equations.{unit_named}
 use Rattle.al_query_outcome.specs.Results.{Outcome, Faulty, Sound}
 
--- what a check found in a file, by place and number, none twice
+-- the diagnostics of a check for a file, by place and number, without duplicates
 abbrev pub checked_findings : List ℕ → List Diagnostic → List Finding
 checked_findings file faults = ascending (map (λ d. finding_at file (spot_of d)) faults)
 
--- A unit that breaks no rule of the graph has no outcome where it isn't reached: it depends on a unit that isn't sound or has a
--- fault (ARM 10.1.1(26)).
+-- A unit that breaks no rule of the graph has no outcome if it isn't reached: it depends on a unit that breaks a rule or has an error (ARM
+-- 10.1.1(26)).
 abbrev pub outcome_findings : List ℕ → Option Outcome → List Finding
 outcome_findings file None = finding_at file (1, 1, 208) ∷ []
 outcome_findings file (Some (Faulty faults)) = checked_findings file faults
 outcome_findings file (Some (Sound interface tree)) = []
 
--- a text that is no compilation unit has its first lexical fault, or else its syntax fault
+-- a source that is no compilation unit has its first lexical error, or else its syntax error
 abbrev pub contents_findings : (UnitKey → Option Outcome) → List ℕ → Contents → List Finding
 contents_findings f file (Headed h) = outcome_findings file (f (unit_named (key_of_unit h)))
 contents_findings f file (Unread place code) = finding_at file (place.line, place.col, code) ∷ []
 
--- what is wrong with the unit of a file among the others (ARM 10.1), or else what its text and its outcome say
+-- the errors of a file's unit among the other units (ARM 10.1), or else those of its source and its outcome
 abbrev pub told_of : Library → (UnitKey → Option Outcome) → List ℕ → List Finding → List Finding
 told_of lib f file faults = or_else faults (option_map_or (λ source. contents_findings f file source.contents) (source_at lib file) [])
 
 abbrev pub file_findings : Library → (UnitKey → Option Outcome) → List ℕ → List Finding
 file_findings lib f file = told_of lib f file (file_faults lib file)
 
--- all that is found in the files of a library, whose units have these outcomes: by file, place and number
+-- all diagnostics of the files of a library, whose units have these outcomes: by file, place and number
 unfoldable pub findings_of : Library → (UnitKey → Option Outcome) → List Finding
 findings_of lib f = flat_map (file_findings lib f) (keys_of lib)

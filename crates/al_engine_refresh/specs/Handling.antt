@@ -10,21 +10,21 @@ use Rattle.al_base_shortage.specs.Counts.{one_more}
 use Rattle.al_engine_refresh.specs.EntryLaw.{HasCurrent, IsCurrent, KeepsLaw, TextMeaning}
 use Rattle.al_engine_refresh.specs.Stored.{Stored}
 
--- the entries with that of one unit
+-- the entries with one unit's entry replaced
 abbrev pub Becomes : (UnitKey → Option Stored) → UnitKey → Stored → (UnitKey → Option Stored) → Type 0
 Becomes before unit e after = (u : UnitKey) → after u ≡ (if same_unit unit u then Some e else before u)
 
--- the entries of these units alone
+-- the entries of only these units
 abbrev pub within : List UnitKey → (UnitKey → Option Stored) → UnitKey → Option Stored
 within units at u = if has_unit units u then at u else None
 
--- the entries of a build so far, the units that it checked, and how many checks were made ever
+-- the entries of a build so far, the units that it checked, and how many checks were ever made
 pub record SoFar : Type 0 where
   pub at : UnitKey → Option Stored
   pub checked : List UnitKey
   pub count : ℕ
 
--- a unit with a text, all on which it depends being sound or not; the table of now, and the entry of before
+-- a unit with a source; whether all that it depends on is without errors; the current table, and the entry before
 pub data Handled (meaning : TextMeaning) (header : List ℕ → Header) (unit : UnitKey) (text : List ℕ) (is_sound : Bool) (t : Query → AnswerKind) (old : Option Stored) (before after : SoFar) : Type 0 where
   -- it isn't reached
   passed : is_sound ≡ false → ((u : UnitKey) → after.at u ≡ before.at u) → after.checked ≡ before.checked → after.count ≡ before.count → Handled meaning header unit text is_sound t old before after

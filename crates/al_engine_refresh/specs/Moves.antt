@@ -8,7 +8,7 @@ use Rattle.al_query_store.specs.Keyed.{State, base_state, cancelled_state, is_mo
 abbrev pub Entries : Type 0
 Entries = List (UnitKey × State Stored)
 
--- but for these units, nothing was made, and the same units are reached as by the last build
+-- except for these units, nothing was made, and the same units are reached as in the last build
 abbrev pub AreQuietBut : List UnitKey → Entries → Type 0
 AreQuietBut moved store = (u : UnitKey) → has_unit moved u ≡ false → state store u ≡ cancelled_state (state store u)
 
@@ -23,6 +23,6 @@ left_by_last s = base_state (cancelled_state s)
 abbrev pub IsLeft : Entries → Entries → Type 0
 IsLeft old new = (u : UnitKey) → left_by_last (state new u) ≡ left_by_last (state old u)
 
--- a unit moved since the last build: an entry was made of it, it leaves, or it is reached by one of the two alone
+-- a unit moved since the last build: an entry was made of it, it leaves, or it is reached in one of the two builds only
 abbrev pub has_moved : Entries → UnitKey → Bool
 has_moved store u = is_moved (state store u)

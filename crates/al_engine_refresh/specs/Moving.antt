@@ -16,32 +16,32 @@ use Rattle.al_engine_refresh.specs.Moves.{Entries, has_moved}
 use Rattle.al_engine_refresh.specs.Staying.{is_there}
 use Rattle.al_engine_refresh.specs.Builds.{present, raised, results_of}
 
--- what the units answer that are reached now; and that the last build reached
+-- the answers of the units that are reached now, and of those that the last build reached
 abbrev pub now_table : (Query → AnswerKind) → Entries → Query → AnswerKind
 now_table predefined store = present predefined (results_of (now_at store))
 
 abbrev pub last_table : (Query → AnswerKind) → Entries → Query → AnswerKind
 last_table predefined store = present predefined (results_of (before_at store))
 
--- the marks of now say which stored answers differ from what the units answer that are reached now
+-- the current marks say which stored answers differ from those of the units that are reached now
 abbrev pub MarksFollow : (Query → AnswerKind) → Entries → Type 0
 MarksFollow predefined store = AreMarkedNow log_of (now_table predefined store) store
 
--- so many stored answers were compared: those to the questions of units that moved
+-- the number of stored answers that were compared: those to questions of units that moved
 abbrev pub IsCompared : Entries → ℕ → Type 0
 IsCompared store n = (m : ℕ) × HasAnswers log_of (λ u. true) (has_moved store) store m × (n ≡ raised 0 m)
 
--- a unit has another state, all others the same but for marks of now, and these follow
+-- a unit has another state; all others are the same except for current marks, and these follow
 pub record Turned (predefined : Query → AnswerKind) (f : State Stored → State Stored) (unit : UnitKey) (old new : Entries) : Type 0 where
   pub states : (u : UnitKey) → base_state (state new u) ≡ base_state (if same_unit unit u then f (state old u) else state old u)
   pub marks : MarksFollow predefined old → MarksFollow predefined new
 
--- who has an entry and isn't in the library leaves, and no other; who leaves isn't reached
+-- a unit leaves if, and only if, it has an entry and isn't in the library; a unit that leaves isn't reached
 pub record AreLeaving (lib : Library) (store : Entries) : Type 0 where
   pub leaves : (u : UnitKey) → (state store u).leaves ≡ (is_some (state store u).settled && not (is_there lib u))
   pub unreached : (u : UnitKey) → (state store u).leaves ≡ true → (state store u).is_reached ≡ false
 
--- of whom an entry was made is reached; no mark of that entry is set
+-- a unit of which an entry was made is reached; no mark of that entry is set
 pub record AreMade (store : Entries) : Type 0 where
   pub reached : (u : UnitKey) → is_some (state store u).made ≡ true → (state store u).is_reached ≡ true
   pub fresh_made : (u : UnitKey) (h : Held Stored) → (state store u).made ≡ Some h → base h ≡ fresh log_of h.entry
@@ -50,7 +50,7 @@ pub record AreMade (store : Entries) : Type 0 where
 abbrev pub left_out : Bool → Bool → State Stored → State Stored
 left_out there ordered s = if is_some s.settled && not there then leaving s else (if ordered then s else with_reached false s)
 
--- before the walk over an order: who isn't in it isn't reached, who isn't in the library leaves, all others are as before
+-- before the walk over an order: units that aren't in it aren't reached, those that aren't in the library leave, all others are as before
 pub record LeftOut (predefined : Query → AnswerKind) (lib : Library) (order : List UnitKey) (old new : Entries) : Type 0 where
   pub reached : (u : UnitKey) → has_unit order u ≡ false → (state new u).is_reached ≡ false
   pub leaving : AreLeaving lib new
@@ -58,7 +58,7 @@ pub record LeftOut (predefined : Query → AnswerKind) (lib : Library) (order : 
   pub unmoved : (u : UnitKey) → has_unit order u ≡ true → is_there lib u ≡ true → has_moved new u ≡ false
   pub marks : MarksFollow predefined old → MarksFollow predefined new
 
--- an entry was made of each of these units and of no other, and is as it should be; and who isn't there leaves
+-- an entry was made of each of these units and of no other, and is as it should be; units that aren't in the library leave
 pub record IsSteady (lib : Library) (checked : List UnitKey) (store : Entries) : Type 0 where
   pub listed : (u : UnitKey) → Contains checked u ↔ (is_some (state store u).made ≡ true)
   pub are_made : AreMade store

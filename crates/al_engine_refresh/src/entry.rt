@@ -1,4 +1,4 @@
-// What is kept of a unit.
+// The entry that is kept of a checked unit.
 ghost use Rattle.std.specs.Prelude.{◌≡◌, IfOk};
 ghost use Rattle.al_query_outcome.specs.Results.{table_entry};
 ghost use Rattle.al_engine_refresh.specs.Stored.{outcome_of};
@@ -11,7 +11,7 @@ use std::alloc::Global;
 use std::marker::Model;
 use std::rc::Rc;
 
-/// What an entry is made of.
+/// The contents of an entry.
 struct Kept {
     text: Rc<Vec<u8>>,
     log: ReadLog,
@@ -28,13 +28,13 @@ impl Drop for Kept {
     }
 }
 
-/// The text of a unit as it was checked, each question that the check asked with its answer, and the result. An entry is
-/// shared: a copy costs no more than a count.
+/// The source of a unit as it was checked, each question that the check asked with its answer, and the result. Entries are shared: a copy only
+/// raises a count.
 pub struct Entry {
     kept: Rc<Kept>,
 }
 
-// Written out, as a crate above then lets an entry go by this call, and needn't prove again how each kind of tree is let go.
+// Written out: a crate above then drops an entry by this call, and needn't prove again how each kind of tree is dropped.
 impl Drop for Entry {
     fn drop(self) {
         let Entry { kept } = self;
@@ -64,7 +64,10 @@ impl Logged for Entry {
 }
 
 impl Entry {
-    /// The entry of a text that was checked, with what was asked and the result. The text is shared.
+    /// The entry of a source that was checked, with what was asked and the result. The source is shared.
+    ///
+    /// # Errors
+    /// `NoMemory` if the allocator refuses memory.
     pub fn new(
         alloc: Global,
         text: Rc<Vec<u8>>,
@@ -77,7 +80,10 @@ impl Entry {
         Ok(Entry { kept })
     }
 
-    /// The same entry once more.
+    /// Another reference to the same entry.
+    ///
+    /// # Errors
+    /// `NoMemory` if the allocator refuses memory.
     pub fn share(&self) -> Result<Entry, NoMemory>
         ensures { IfOk result (λ entry. entry ≡ self.now) }
     {
@@ -85,7 +91,7 @@ impl Entry {
         Ok(Entry { kept })
     }
 
-    /// The text that was checked.
+    /// The source that was checked.
     pub fn text(&self) -> &[u8]
         ensures { result.now ≡ self.now.text }
     {
@@ -99,7 +105,7 @@ impl Entry {
         &self.kept.log
     }
 
-    /// What the check gave.
+    /// The result of the check.
     pub fn checked(&self) -> &Checked
         ensures { result.now ≡ self.now.checked }
     {
@@ -107,6 +113,9 @@ impl Entry {
     }
 
     /// The answer to a question of the unit.
+    ///
+    /// # Errors
+    /// `NoMemory` if the allocator refuses memory.
     pub fn answer(&self, alloc: Global, query: &Query) -> Result<Answer, NoMemory>
         ensures { IfOk result (λ answer. answer ≡ table_entry (outcome_of self.now) query.now) }
     {

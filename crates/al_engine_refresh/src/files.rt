@@ -1,4 +1,4 @@
-// What is found in the files.
+// The diagnostics of a library's files.
 ghost use Rattle.std.specs.Prelude.{◌≡◌, ◌++◌, map, Some, IfOk, OnOk};
 ghost use Rattle.std.specs.Map.{keys_of};
 ghost use Rattle.std.specs.Option.{option_copied, option_map};
@@ -32,7 +32,7 @@ fn key_of_header(alloc: Global, header: &Header) -> Result<UnitKey, NoMemory>
     })
 }
 
-/// Adds what the check of a unit found.
+/// Adds the diagnostics that the check of a unit gave.
 fn add_checked(
     alloc: Global,
     file: &[u8],
@@ -47,7 +47,7 @@ fn add_checked(
     }
 }
 
-/// Adds what the outcome of a unit says; where it has none, that it depends on faults.
+/// Adds the diagnostics of a unit's outcome. If it has no outcome, it depends on a unit with errors, and this is added.
 fn add_outcome(
     alloc: Global,
     file: &[u8],
@@ -62,7 +62,7 @@ fn add_outcome(
     }
 }
 
-/// Adds what the text of a file and the outcome of its unit say.
+/// Adds the diagnostics of a file's source and of the outcome of its unit.
 fn add_contents(
     alloc: Global,
     entries: &KeptEntries,
@@ -81,7 +81,7 @@ fn add_contents(
     }
 }
 
-/// Adds what is found in a file that has these faults among the others.
+/// Adds the diagnostics of a file. `faults` are the errors of its unit among the other units.
 fn add_file(
     alloc: Global,
     sources: &Sources,
@@ -101,8 +101,11 @@ fn add_file(
     }
 }
 
-/// All that is wrong with the files of a library, by file, place and number: what is wrong with their units among one another, and
-/// else what the texts are, or what the outcomes of the units say.
+/// All diagnostics of a library's files, by file, place and number. For each file these are the errors of its unit among the other units, or else
+/// those of its source, or else those of the unit's outcome.
+///
+/// # Errors
+/// `NoMemory` if the allocator refuses memory.
 pub fn findings_of(
     alloc: Global,
     sources: &Sources,

@@ -1,4 +1,4 @@
-// Adding to what is found.
+// Lists of diagnostics.
 ghost use Rattle.std.specs.Prelude.{◌≡◌, ◌++◌, ◌∷◌, [], ℕ, List, map, IfOk, OnOk};
 ghost use Rattle.al_base.specs.Batch.{finding_of};
 ghost use Rattle.al_unit_faults.specs.Orders.{ascending};
@@ -9,7 +9,7 @@ use al_base::{Diagnostic, Name, NoMemory, Place};
 use std::alloc::Global;
 use std::collections::BTreeSet;
 
-/// Adds a finding at a place of a file.
+/// Adds a diagnostic at a place of a file.
 pub(crate) fn add(
     alloc: Global,
     file: &[u8],
@@ -24,7 +24,7 @@ pub(crate) fn add(
     Ok(())
 }
 
-/// Adds what was found.
+/// Adds diagnostics.
 pub(crate) fn add_all(
     alloc: Global,
     more: &[Diagnostic],
@@ -38,7 +38,7 @@ pub(crate) fn add_all(
     Ok(())
 }
 
-/// The line, the column and the number of each, in order, none twice.
+/// The line, the column and the number of each diagnostic, in order, without duplicates.
 fn spots(alloc: Global, found: &[Diagnostic]) -> Result<BTreeSet<(u32, u32, u16)>, NoMemory>
     ensures { IfOk result (λ spots. (file : List ℕ) → map (finding_at file) spots.keys ≡ checked_findings file found.now) }
 {
@@ -49,7 +49,7 @@ fn spots(alloc: Global, found: &[Diagnostic]) -> Result<BTreeSet<(u32, u32, u16)
     Ok(spots)
 }
 
-/// Adds what a check found in a file, by place and number, none twice.
+/// Adds the diagnostics that a check gave for a file, by place and number, without duplicates.
 pub(crate) fn add_ascending(
     alloc: Global,
     file: &[u8],

@@ -1,7 +1,7 @@
-//! Laws of findings, as contracts of functions without code.
+//! Laws of diagnostics, as contracts of functions without code.
 ghost use Rattle.al_engine_refresh.specs.Ascending.{FindingsAscend};
 
-/// What a build finds wrong stands by file, place and number, and nothing is told twice, whatever the outcomes of the units are.
+/// The diagnostics of a build are sorted by file, place and number, without duplicates, whatever the outcomes of the units are.
 pub fn findings_ascend()
     ensures { FindingsAscend }
 {}

@@ -1,4 +1,4 @@
-// Entries of units while a build goes on.
+// Entries of units during a build.
 ghost use Rattle.std.specs.Prelude.{◌≡◌, [], true, IfOk, IsTrue, OnErr, OnOk, None, is_some};
 ghost use Rattle.std.specs.Map.{keys_of};
 ghost use Rattle.std.specs.Option.{option_copied};
@@ -18,15 +18,15 @@ use al_view::copied_unit;
 use std::alloc::Global;
 use std::marker::Model;
 
-/// Entries of units, with marks for their answers: as the last build settled them, and as a build made them since. Which units moved since
-/// the last build is noted, so that a build's end looks at no other.
+/// Entries of units, with marks for their answers: the *settled* ones of the last build, and those that a build has made since. Units that moved
+/// since the last build are noted, so the end of a build looks only at them.
 pub struct KeptEntries {
     alloc: Global,
     store: Store<Entry>,
     moved: Vec<UnitKey>,
 }
 
-// Written out, as a crate above then lets entries go by this call, and needn't prove again how each kind of tree is let go.
+// Written out: a crate above then drops entries by this call, and needn't prove again how each kind of tree is dropped.
 impl Drop for KeptEntries {
     fn drop(self) {
         let KeptEntries {
@@ -57,7 +57,7 @@ impl Model for KeptEntries {
 }
 
 impl KeptEntries {
-    /// No entry. It takes no memory.
+    /// Entries of no unit. It takes no memory.
     pub fn new(alloc: Global) -> Self
         ensures { result ≡ [] }
     {
@@ -75,7 +75,7 @@ impl KeptEntries {
         self.store.settled(unit)
     }
 
-    /// The entry of now of a unit that is reached: the one that was made, or else the settled one. It takes no memory.
+    /// The current entry of a unit that is reached: the one that was made, or else the settled one. It takes no memory.
     pub fn get(&self, unit: &UnitKey) -> Option<&Entry>
         ensures { option_copied result ≡ now_at self.now unit.now }
     {
@@ -89,7 +89,10 @@ impl KeptEntries {
         self.store.is_reached(unit)
     }
 
-    /// The units of which there is something, in order.
+    /// The units that have an entry or a note, in order.
+    ///
+    /// # Errors
+    /// `NoMemory` if the allocator refuses memory.
     pub fn units(&self) -> Result<Vec<UnitKey>, NoMemory>
         ensures { IfOk result (λ units. units.items ≡ keys_of self.now) }
     {
@@ -103,11 +106,11 @@ impl KeptEntries {
         self.store.has_moved(unit)
     }
 
-    /// Holds an entry that was made of a unit, which is reached. It has no mark set.
+    /// Holds an entry that was made of a unit, which is then reached. No mark of it is set.
     ///
     /// # Errors
     ///
-    /// `NoMemory` where memory was wanted and not given: all is as before.
+    /// `NoMemory` if the allocator refuses memory; nothing changes then.
     pub fn make(&mut self, unit: &UnitKey, entry: Entry) -> Result<(), NoMemory>
         requires { (state self.old unit.now).made ≡ None }
         ensures ok { OnOk result (Changes (with_made log_of entry) unit.now self.old self.new) }
@@ -119,11 +122,11 @@ impl KeptEntries {
         Ok(())
     }
 
-    /// A unit of which there is something is reached now, or it isn't.
+    /// Notes whether a unit that has an entry or a note is reached now.
     ///
     /// # Errors
     ///
-    /// `NoMemory` where memory was wanted and not given: all is as before.
+    /// `NoMemory` if the allocator refuses memory; nothing changes then.
     pub fn reach(&mut self, unit: &UnitKey, is_reached: bool) -> Result<(), NoMemory>
         requires { is_some (at_unit self.old unit.now) ≡ true }
         ensures ok { OnOk result (Changes (with_reached is_reached) unit.now self.old self.new) }
@@ -135,11 +138,11 @@ impl KeptEntries {
         Ok(())
     }
 
-    /// A unit of which there is something leaves the library.
+    /// Notes that a unit that has an entry or a note leaves the library.
     ///
     /// # Errors
     ///
-    /// `NoMemory` where memory was wanted and not given: all is as before.
+    /// `NoMemory` if the allocator refuses memory; nothing changes then.
     pub fn leave(&mut self, unit: &UnitKey) -> Result<(), NoMemory>
         requires { is_some (at_unit self.old unit.now) ≡ true }
         ensures ok { OnOk result (Changes leaving unit.now self.old self.new) }
@@ -151,12 +154,12 @@ impl KeptEntries {
         Ok(())
     }
 
-    /// Compares the answers of settled entries to the questions of a unit with those of now, and marks each by whether it differs. It tells
+    /// Compares the answers that settled entries store for questions of a unit with its current answers, and marks each by whether it differs. Gives
     /// how many were compared.
     ///
     /// # Errors
     ///
-    /// `NoMemory` where memory was wanted and not given: all is the same but for marks of now.
+    /// `NoMemory` if the allocator refuses memory; then only current marks may have changed.
     pub fn mark<A: Answers>(&mut self, unit: &UnitKey, asked: &A) -> Result<usize, NoMemory>
         ensures marked { OnOk result (ComparesUnit log_of (A.table asked.now) unit.now self.old self.new) }
         ensures counted { IfOk result (λ n. HasAnswers log_of (λ u. true) (λ u. same_unit u unit.now) self.old n) }
@@ -165,15 +168,15 @@ impl KeptEntries {
         self.store.mark(unit, asked)
     }
 
-    /// Whether it is known that no mark of now of a settled entry is another one than the last build's. It takes no memory.
+    /// Whether it is known that each current mark of a settled entry is as in the last build. It takes no memory.
     pub fn is_untouched(&self) -> bool
         ensures { IsTrue result → AreMarkedAsBefore self.now }
     {
         self.store.is_untouched()
     }
 
-    /// A build has answered: what it made is settled, what it reached is what the last build reached, who leaves is gone, and its marks are
-    /// those of the last build. It takes no memory.
+    /// Ends a build that has answered: the entries that it made are settled, the units that it reached are those of the last build, units that left
+    /// have no entry, and its marks are those of the last build. It takes no memory.
     pub fn settle(&mut self)
         ensures { (u : UnitKey) → state self.new u ≡ kept_state (settled_state (state self.old u)) }
     {
@@ -181,7 +184,7 @@ impl KeptEntries {
         self.moved.clear();
     }
 
-    /// A build found no memory: what it made is let go, and all is as the last build left it. It takes no memory.
+    /// Ends a build that ran out of memory: the entries that it made are dropped, and all is as the last build left it. It takes no memory.
     pub fn cancel(&mut self)
         ensures { (u : UnitKey) → state self.new u ≡ base_state (cancelled_state (state self.old u)) }
     {

@@ -10,9 +10,8 @@ ghost use Rattle.al_unit_faults.specs.Reached.{IsDependenceOrder};
 ghost use Rattle.al_unit_faults.specs.Read.{AreHeaded, NameParentBodies};
 ghost use Rattle.al_engine_refresh.specs.Settings.{ArePredefined, library_setting};
 
-/// A library whose files have the headers that are read in their texts is a setting for checks, by any order of dependence of its units
-/// that break no rule of the graph: ranks are places in the order, and which declaration and which parent body a name has follows from
-/// the rules that the units keep.
+/// A library whose files have the headers that are parsed from them is a setting for checks, by any order of dependence of its units that break no
+/// rule of the graph. Ranks are places in the order. The declaration and the parent body of a name follow from the rules that the units keep.
 pub fn order_is_setting()
     ensures { (header : List ℕ → Header) (lib : Library) (predefined : Query → AnswerKind) (order : List UnitKey) → AreHeaded header lib → NameParentBodies lib → ArePredefined predefined → IsDependenceOrder lib (map key_of order) → IsSetting (library_setting header lib predefined) }
 {}

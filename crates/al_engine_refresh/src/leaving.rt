@@ -1,4 +1,4 @@
-// Who isn't reached any more, and who leaves, before a build takes the units of an order.
+// Before a build takes the units of an order: which units aren't reached any more, and which leave.
 ghost use Rattle.std.specs.Prelude.{◌≡◌, ◌&&◌, false, not, IfOk, OnOk, is_some};
 ghost use Rattle.al_base.specs.declared.unit_key.UnitKey.{UnitKey};
 ghost use Rattle.al_query_store.specs.Units.{at_unit};
@@ -17,7 +17,7 @@ use al_unit_graph::Sources;
 use al_view::copied_unit;
 use std::alloc::Global;
 
-/// These units, as a set.
+/// These units as a set.
 fn set_of(alloc: Global, units: &[UnitKey]) -> Result<UnitMap<bool>, NoMemory>
     ensures { IfOk result (λ set. (u : UnitKey) → is_some (at_unit set u) ≡ has_unit units.now u) }
 {
@@ -49,7 +49,7 @@ fn is_gone(sources: &Sources, entries: &KeptEntries, unit: &UnitKey) -> bool
     has_settled(entries, unit) && !sources.has_unit(unit)
 }
 
-/// A unit that has an entry and isn't in the library leaves; else one that isn't in the order isn't reached any more.
+/// Handles one unit that has an entry. If it isn't in the library, it leaves; else if it isn't in the order, it isn't reached any more.
 fn leave_one<P: Answers>(
     alloc: Global,
     predefined: &P,
@@ -73,8 +73,11 @@ fn leave_one<P: Answers>(
     turn(alloc, predefined, entries, unit, false, compared)
 }
 
-/// Who isn't in the library leaves; who isn't in the order isn't reached any more. The stored answers to the questions of those who moved
-/// are compared.
+/// Removes the units that aren't in the library, and notes that those that aren't in the order aren't reached any more. The stored answers to
+/// questions of units that moved are compared.
+///
+/// # Errors
+/// `NoMemory` if the allocator refuses memory.
 pub fn leave_out<P: Answers>(
     alloc: Global,
     predefined: &P,

@@ -1,4 +1,4 @@
-// Units that move in a build: what is stored of their answers is compared with what they answer now.
+// Units that move in a build: the stored answers to their questions are compared with their current ones.
 ghost use Rattle.std.specs.Prelude.{◌≡◌, ℕ, true, false, IfOk, IsTrue, None, OnErr, OnOk, is_some};
 ghost use Rattle.std.specs.Option.{option_map};
 ghost use Rattle.al_base.specs.declared.unit_key.UnitKey.{UnitKey};
@@ -18,7 +18,7 @@ use al_query::{Answer, Answers, Query};
 use al_query_outcome::no_answer;
 use std::alloc::Global;
 
-/// What one unit answers now, and the predefined ones.
+/// The current answers of one unit and of the predefined units.
 #[derive(Drop)]
 struct OneUnitAnswers<'a, P: Answers> {
     alloc: Global,
@@ -40,7 +40,7 @@ impl<P: Answers> Answers for OneUnitAnswers<'_, P> {
     }
 }
 
-/// The entry of now of a unit, shared; none where it isn't reached.
+/// The current entry of a unit, shared; none if the unit isn't reached.
 fn shared(entries: &KeptEntries, unit: &UnitKey) -> Result<Option<Entry>, NoMemory>
     ensures { IfOk result (λ entry. entry ≡ now_at entries.now unit.now) }
 {
@@ -50,14 +50,14 @@ fn shared(entries: &KeptEntries, unit: &UnitKey) -> Result<Option<Entry>, NoMemo
     }
 }
 
-/// So many more, to 2^64-1.
+/// The sum of the two, at most 2^64-1.
 fn raised_by(count: usize, more: usize) -> usize
     ensures { result ≡ raised count more }
 {
     count.saturating_add(more)
 }
 
-/// Compares the stored answers to the questions of a unit with what it answers now, and marks those that differ.
+/// Compares the stored answers to questions of a unit with its current answers, and marks those that differ.
 fn compare<P: Answers>(
     alloc: Global,
     predefined: &P,
@@ -80,7 +80,7 @@ fn compare<P: Answers>(
     Ok(())
 }
 
-/// A unit is reached now, or it isn't: where that is another thing than before, it moves.
+/// Notes whether a unit is reached now. If that changes, the unit moves.
 pub(crate) fn turn<P: Answers>(
     alloc: Global,
     predefined: &P,
@@ -102,7 +102,7 @@ pub(crate) fn turn<P: Answers>(
     compare(alloc, predefined, entries, unit, compared)
 }
 
-/// An entry was made of a unit, which moves.
+/// Holds an entry that was made of a unit, which moves.
 pub(crate) fn add_made<P: Answers>(
     alloc: Global,
     predefined: &P,
@@ -120,7 +120,7 @@ pub(crate) fn add_made<P: Answers>(
     compare(alloc, predefined, entries, unit, compared)
 }
 
-/// A unit leaves the library: it moves.
+/// Removes a unit that leaves the library, which moves.
 pub(crate) fn leave<P: Answers>(
     alloc: Global,
     predefined: &P,

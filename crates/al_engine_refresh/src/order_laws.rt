@@ -11,8 +11,8 @@ ghost use Rattle.al_unit_faults.specs.Reached.{IsDependenceOrder, is_faultless};
 ghost use Rattle.al_unit_faults.specs.Read.{AreHeaded, NameParentBodies};
 ghost use Rattle.al_engine_refresh.specs.Settings.{ArePredefined};
 
-/// A library whose files have the headers that are read in their texts is a setting for a build, by any order of dependence of its units
-/// that break no rule of the graph, and the order is one that the build may take.
+/// A library whose files have the headers that are parsed from them is a setting for a build, by any order of dependence of its units that break no
+/// rule of the graph, and the build may take that order.
 pub fn order_is_for_builds()
     ensures { (header : List ℕ → Header) (lib : Library) (predefined : Query → AnswerKind) (order : List UnitKey) → AreHeaded header lib → NameParentBodies lib → ArePredefined predefined → IsDependenceOrder lib (map key_of order) → let s = setting header lib (λ u. is_faultless lib (key_of u)) predefined in (is : IsSetting s) × IsOrder s is.rank order }
 {}

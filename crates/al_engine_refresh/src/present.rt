@@ -1,4 +1,4 @@
-// The answers of a build so far.
+// The current answers during a build.
 ghost use Rattle.std.specs.Prelude.{◌≡◌, IfOk, map};
 ghost use Rattle.std.specs.List.{list_all};
 ghost use Rattle.std.specs.Option.{option_copied, option_map};
@@ -18,10 +18,13 @@ use al_unit_graph::Sources;
 use std::alloc::Global;
 use std::rc::Rc;
 
-/// What the predefined units and the units that are reached now answer.
+/// The answers of the predefined units, and of the units that are reached now.
 pub struct Present<'a, P: Answers> {
+    /// The allocator of answers.
     pub alloc: Global,
+    /// The predefined units.
     pub predefined: &'a P,
+    /// The entries so far.
     pub entries: &'a KeptEntries,
 }
 
@@ -62,7 +65,7 @@ pub(crate) fn is_predefined(unit: &UnitKey) -> bool
             || name == b"ada.real_time".as_slice())
 }
 
-/// Whether what is held is there and without faults.
+/// Whether there is an entry, and it has no errors.
 fn is_sound(held: Option<&Entry>) -> bool
     ensures { result ≡ is_sound (option_map outcome_of (option_copied held.entry)) }
 {
@@ -75,21 +78,21 @@ fn is_sound(held: Option<&Entry>) -> bool
     }
 }
 
-/// Whether a unit has an entry without faults.
+/// Whether a unit has a current entry without errors.
 pub fn has_sound(entries: &KeptEntries, unit: &UnitKey) -> bool
     ensures { result ≡ is_sound (results_of (now_at entries.now) unit.now) }
 {
     is_sound(entries.get(unit))
 }
 
-/// Whether each of these units has an entry without faults.
+/// Whether each of these units has a current entry without errors.
 fn all_sound(entries: &KeptEntries, units: &[UnitKey]) -> bool
     ensures { result ≡ list_all (λ u. is_sound (results_of (now_at entries.now) u)) units.now }
 {
     units.iter().all(|unit| has_sound(entries, unit))
 }
 
-/// Whether all on which a unit depends by itself has an entry without faults.
+/// Whether each unit that this unit depends on directly has a current entry without errors.
 pub(crate) fn rests_on_sound(
     sources: &Sources,
     entries: &KeptEntries,
@@ -101,11 +104,11 @@ pub(crate) fn rests_on_sound(
     Ok(all_sound(entries, units.as_slice()))
 }
 
-/// The text of a unit's file, shared; no bytes where it has none.
+/// The source in a unit's file, shared; no bytes if it has no file.
 ///
 /// # Errors
 ///
-/// `NoMemory` where memory was wanted and not given.
+/// `NoMemory` if the allocator refuses memory.
 pub fn text_of(alloc: Global, sources: &Sources, unit: &UnitKey) -> Result<Rc<Vec<u8>>, NoMemory>
     ensures { IfOk result (λ text. text.value.items ≡ text_of sources.now unit.now) }
 {

@@ -1,4 +1,4 @@
-// The units of a build in the order of dependence.
+// All units of a build, in an order of dependence.
 ghost use Rattle.std.specs.Prelude.{◌≡◌, ◌++◌, [], ℕ, Bool, true, false, IfOk, List, None, OnOk, length};
 ghost use Rattle.std.specs.List.{IsDistinct};
 ghost use Rattle.al_base.specs.declared.unit_key.UnitKey.{UnitKey};
@@ -34,18 +34,17 @@ pub fn begun(alloc: Global) -> Done
     }
 }
 
-/// Brings those units of a library up to date that stand after others in an order of dependence, where these are done. Of a unit that is
-/// reached, the settled entry is used again where its text and all answers are as they were; else the unit is checked, and an entry is made
-/// of it. What is settled stays as it is.
-/// - `built`: where the units that are done are as a build of the whole order leaves them, all are so.
-/// - `counted`: so many checks were made, if so many were before.
-/// - `marks`: the marks of now say which stored answers differ from those of now.
-/// - `compared`: so many stored answers were compared: those to questions of units that moved.
-/// - `steady`: an entry was made of each unit that was checked, and of no other; who isn't in the library leaves.
+/// Brings the rest of a library's units up to date, in an order of dependence, after those in `done`. If a unit is reached, and its source and all
+/// its answers are as they were, its settled entry is used again; else it is checked, and an entry is made of it. Settled entries stay as they are.
+/// - `built`: if the units in `done` are as a build of the whole order leaves them, all units are.
+/// - `counted`: the checker's count grows by the number of units checked.
+/// - `marks`: the current marks say which stored answers differ from current ones.
+/// - `compared`: the stored answers that were compared are those to questions of units that moved.
+/// - `steady`: an entry was made of each unit that was checked, and of no other; units that aren't in the library leave.
 ///
 /// # Errors
 ///
-/// `NoMemory` where memory was wanted and not given. Some of the units may be up to date then.
+/// `NoMemory` if the allocator refuses memory; some of the units may be up to date then.
 pub fn refresh_rest<C: UnitCheck, P: Answers>(
     alloc: Global,
     checker: &mut C,
@@ -71,14 +70,17 @@ pub fn refresh_rest<C: UnitCheck, P: Answers>(
     Ok(())
 }
 
-/// Brings the units of a library up to date, in an order of dependence. Of a unit that is reached, the settled entry is used again where
-/// its text and all answers are as they were; else the unit is checked, and an entry is made of it. What is settled stays as it is.
-/// - `built`: the outcomes are the one map that solves the library's equations, whatever the settled entries are that keep the law; and
-///   exactly those units are checked that are reached and have no settled entry for their text, or one with an answer that differs now.
-/// - `counted`: so many checks were made.
-/// - `marks`: the marks of now say which stored answers differ from those of now.
-/// - `compared`: so many stored answers were compared: those to questions of units that moved.
-/// - `steady`: an entry was made of each unit that was checked, and of no other; who isn't in the library leaves.
+/// Brings the units of a library up to date, in an order of dependence. If a unit is reached, and its source and all its answers are as they were,
+/// its settled entry is used again; else it is checked, and an entry is made of it. Settled entries stay as they are.
+/// - `built`: the outcomes are the one map that solves the library's equations, whatever the settled entries are that keep the law. A unit is
+///   checked if, and only if, it is reached and has no settled entry for its source, or one with an answer that differs now.
+/// - `counted`: the checker's count grows by the number of units checked.
+/// - `marks`: the current marks say which stored answers differ from current ones.
+/// - `compared`: the stored answers that were compared are those to questions of units that moved.
+/// - `steady`: an entry was made of each unit that was checked, and of no other; units that aren't in the library leave.
+///
+/// # Errors
+/// `NoMemory` if the allocator refuses memory.
 pub fn refresh<C: UnitCheck, P: Answers>(
     alloc: Global,
     checker: &mut C,

@@ -29,7 +29,7 @@ use al_view::{Seq, copied_unit};
 use std::alloc::Global;
 use std::rc::Rc;
 
-/// Whether an entry may be used again: it is for this text, and none of its marks of now is set. No question is asked.
+/// Whether an entry may be used again: it is for this source, and none of its current marks is set. No question is asked.
 fn may_be_used(held: &Held<Entry>, text: &[u8]) -> bool
     ensures { (t : Query → AnswerKind) → MarksTell t (log_of held.now.entry) held.now.marks.now → IsTrue result ↔ IsCurrent held.now.entry text.now t }
 {
@@ -40,7 +40,7 @@ fn may_be_used(held: &Held<Entry>, text: &[u8]) -> bool
     !held.marks.any()
 }
 
-/// Whether the settled entry of a unit may be used again: it is for this text, and none of its answers differs now.
+/// Whether the settled entry of a unit may be used again: it is for this source, and none of its answers differs now.
 fn has_current(entries: &KeptEntries, unit: &UnitKey, text: &[u8]) -> bool
     ensures current { (t : Query → AnswerKind) → AreMarkedNow log_of t entries.now → IsTrue result ↔ HasCurrent (settled_at entries.now unit.now) text.now t }
     ensures there { IsTrue result → is_some (state entries.now unit.now).settled ≡ true }
@@ -51,7 +51,7 @@ fn has_current(entries: &KeptEntries, unit: &UnitKey, text: &[u8]) -> bool
     }
 }
 
-/// A new entry of a unit with this text, which was read, by a check that asks these answers.
+/// A new entry of a unit whose source was parsed, by a check that asks these answers.
 fn check_read<C: UnitCheck, A: Answers + Drop>(
     alloc: Global,
     checker: &mut C,
@@ -71,11 +71,11 @@ fn check_read<C: UnitCheck, A: Answers + Drop>(
     Entry::new(alloc, text, log, checked)
 }
 
-/// A new entry of a unit with this text, which is read for it, by a check that asks these answers.
+/// A new entry of a unit with this source, which is parsed for it, by a check that asks these answers.
 ///
 /// # Errors
 ///
-/// `NoMemory` where memory was wanted and not given.
+/// `NoMemory` if the allocator refuses memory.
 fn check_unit<C: UnitCheck, A: Answers + Drop>(
     alloc: Global,
     checker: &mut C,
@@ -91,7 +91,7 @@ fn check_unit<C: UnitCheck, A: Answers + Drop>(
     check_read(alloc, checker, unit, text, &read, asked)
 }
 
-/// A new entry of a unit with this text, under what the units answer that are reached now.
+/// A new entry of a unit with this source, by the answers of the units that are reached now.
 fn check_now<C: UnitCheck, P: Answers>(
     alloc: Global,
     checker: &mut C,
@@ -112,9 +112,11 @@ fn check_now<C: UnitCheck, P: Answers>(
     check_unit(alloc, checker, unit, text, asked)
 }
 
-/// The units that a build checked, in its order, and how many stored answers it compared.
+/// The units that a build has checked so far, in its order, and how many stored answers it has compared.
 pub struct Done {
+    /// The units that were checked.
     pub checked: Seq<UnitKey>,
+    /// The number of stored answers that were compared.
     pub compared: usize,
 }
 
@@ -137,7 +139,10 @@ impl Done {
     }
 }
 
-/// Checks a unit anew, where all on which it depends is sound, and holds the entry that is made of it.
+/// Checks a unit again if all that it depends on is without errors, and holds the entry that is made of it.
+///
+/// # Errors
+/// `NoMemory` if the allocator refuses memory.
 pub fn check_anew<C: UnitCheck, P: Answers>(
     alloc: Global,
     checker: &mut C,
@@ -159,12 +164,12 @@ pub fn check_anew<C: UnitCheck, P: Answers>(
     add_made(alloc, predefined, entries, unit, entry, &mut done.compared)
 }
 
-/// Brings one unit up to date: it isn't reached, or its entry is used again, or it is checked. Where it moved by that, the stored answers to its
+/// Brings one unit up to date: it isn't reached, or its entry is used again, or it is checked. If it moved by that, the stored answers to its
 /// questions are compared.
-/// - `handled`: what becomes of it, among units that are done.
-/// - `marks`: the marks of now follow.
-/// - `steady`: an entry was made of it just where it was checked.
-/// - `compared`: so many stored answers were compared.
+/// - `handled`: what becomes of it, among the units that are done.
+/// - `marks`: the current marks say which stored answers differ.
+/// - `steady`: an entry was made of it if, and only if, it was checked.
+/// - `compared`: the stored answers that were compared are those to its questions, if it moved.
 pub(crate) fn refresh_unit<C: UnitCheck, P: Answers>(
     alloc: Global,
     checker: &mut C,

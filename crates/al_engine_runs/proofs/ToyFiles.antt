@@ -1,4 +1,4 @@
--- A library of the small language and its texts.
+-- A library of the small language and its sources.
 use Rattle.std.proofs.Common.{◌≡◌, [], ◌∷◌, Option, Some, None, IfSome, refl, sym, ap, subst, ◌∙◌}
 use Rattle.al_base.specs.Files.{Texts}
 use Rattle.al_unit_graph.specs.Headers.{Library}
@@ -12,15 +12,15 @@ unfolding toy_library
 texts_of-library [] = refl
 texts_of-library (f ∷ fs) = ap (λ gs. f ∷ gs) (texts_of-library fs)
 
--- a library of texts has these texts
+-- a library of sources has these sources
 pub texts_are : (lib : Library) (files : Texts) → lib ≡ toy_library files → texts_of lib ≡ files
 texts_are lib files is = ap texts_of is ∙ texts_of-library files
 
--- and is that of its own texts
+-- a library of sources is that of its own sources
 pub are_toys : (lib : Library) (files : Texts) → lib ≡ toy_library files → AreToys lib
 are_toys lib files is = is ∙ ap toy_library (sym (texts_are lib files is))
 
--- what is so of two libraries is so of those of their texts
+-- what holds of two libraries holds of those of their sources
 pub edited_as : (before now : Library) → AreToys before → AreToys now → (found : Option Edited) → IfSome found (λ edited. HaveSameHeaders before now × HaveTextsBut before now edited) → IfSome found (λ edited. HaveSameHeaders (toy_library (texts_of before)) (toy_library (texts_of now)) × HaveTextsBut (toy_library (texts_of before)) (toy_library (texts_of now)) edited)
 edited_as before now of_before of_now None is = tt
 edited_as before now of_before of_now (Some edited) is =

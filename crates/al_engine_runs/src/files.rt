@@ -1,4 +1,4 @@
-// Files of the small language as a library reads them.
+// Files of the small language, as a library reads them.
 ghost use Rattle.al_engine.specs.States.{AreReadFor};
 ghost use Rattle.al_engine_toy.specs.Toys.{header_in, toy_library};
 
@@ -9,7 +9,7 @@ use al_unit_graph::Sources;
 use std::alloc::Global;
 use std::marker::Model;
 
-/// Files with the units that are read in their texts.
+/// Files with the units that are read from them.
 #[derive(Drop)]
 pub(crate) struct ToyFiles {
     sources: Sources,
@@ -27,7 +27,7 @@ impl Model for ToyFiles {
 }
 
 impl ToyFiles {
-    /// What a library asks of how its files are read. It does nothing.
+    /// What a library requires of the way its files are read. It does nothing: its contract is the law.
     pub fn are_read()
         ensures { AreReadFor header_in toy_library }
     {

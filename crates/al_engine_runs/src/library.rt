@@ -13,14 +13,14 @@ use al_session_served::UnitLibrary;
 use al_tasks::RunReport;
 use std::alloc::Global;
 
-/// A library, and the allocator of what it tells.
+/// A library, and the allocator of what is printed of it.
 #[derive(Drop)]
 pub(crate) struct Library {
     alloc: Global,
     served: Served<ToyFiles, Toy, Predefined>,
 }
 
-/// What was done at a command, and is to be told.
+/// What a command did, which is to be printed.
 #[derive(Clone, Copy)]
 pub(crate) enum Done {
     Edited,
@@ -28,13 +28,13 @@ pub(crate) enum Done {
     /// A build that made so many checks.
     Built(u64),
     Obsolete,
-    /// A question of the library itself.
+    /// A question about the library itself.
     Told,
     /// A run of at most so many events.
     Run(u64),
 }
 
-/// What a command gave where it isn't refused.
+/// The result of a command, or none if it is refused.
 fn given<T>(answer: Result<T, Refusal>) -> Result<Option<T>, NoMemory> {
     match answer {
         Ok(given) => Ok(Some(given)),
@@ -44,6 +44,7 @@ fn given<T>(answer: Result<T, Refusal>) -> Result<Option<T>, NoMemory> {
 }
 
 impl Library {
+    /// A library without files and builds.
     pub fn new(alloc: Global) -> Library {
         ToyFiles::are_read();
         Predefined::are_predefined();
@@ -57,7 +58,10 @@ impl Library {
         self.served.engine()
     }
 
-    /// Carries out a command. Where memory was wanted and not given nothing but the count of checks is changed.
+    /// Carries out a command.
+    ///
+    /// # Errors
+    /// `NoMemory` if the allocator refuses memory; then nothing but the count of checks is changed.
     pub fn act(&mut self, word: &str, rest: &str) -> Result<Done, NoMemory> {
         if word == "build" {
             self.build(rest)
@@ -99,13 +103,19 @@ impl Library {
         Ok(Done::Built(self.engine().checks().saturating_sub(before)))
     }
 
-    /// Serves a session over the library, and tells its replies and how it ended.
+    /// Serves a session over the library, and gives its replies and how it ended.
+    ///
+    /// # Errors
+    /// `NoMemory` if the allocator refuses memory.
     pub fn serve(&mut self, words: &str) -> Result<String, NoMemory> {
         let replies = serve(self.alloc, &mut self.served, words)?;
         self.text(replies.as_slice())
     }
 
-    /// Tells what was done. Nothing is changed, so it may be told again.
+    /// Prints what was done. Nothing is changed, so it may be printed again.
+    ///
+    /// # Errors
+    /// `NoMemory` if the allocator refuses memory.
     pub fn tell(&self, done: Done) -> Result<String, NoMemory> {
         match done {
             Done::Edited => self.text(b""),
@@ -122,7 +132,8 @@ impl Library {
         Ok(text)
     }
 
-    /// What the last build gave, the units that it checked, by how much the count of checks rose, and how many stored answers it compared.
+    /// Prints the result of the last build, the units that it checked, by how much the count of checks rose, and how many stored answers it
+    /// compared.
     fn print_build(&self, more: u64) -> Result<String, NoMemory> {
         let mut text = Vec::new(self.alloc);
         if let Some((main, compiled)) = self.engine().last() {
@@ -134,7 +145,7 @@ impl Library {
         self.text(text.as_slice())
     }
 
-    /// The units that are obsolete since the last build.
+    /// Prints the units that are obsolete since the last build.
     fn print_obsolete(&self) -> Result<String, NoMemory> {
         match given(self.engine().obsolete())? {
             Some(units) => self.print_units(units.as_slice()),
@@ -142,7 +153,7 @@ impl Library {
         }
     }
 
-    /// What the library holds of its last build.
+    /// Prints what the library holds of its last build.
     fn print_told(&self) -> Result<String, NoMemory> {
         let engine = self.engine();
         let checks = (engine.last_checked().len(), engine.checks());
@@ -168,7 +179,7 @@ impl Library {
         self.text(text.as_slice())
     }
 
-    /// A run of the last build's image, if there is one.
+    /// Prints a run of the last build's image, if there is one.
     fn print_run(&self, events: u64) -> Result<String, NoMemory> {
         match given(self.engine().run(100, events))? {
             Some(ran) => self.print_ran(&ran),

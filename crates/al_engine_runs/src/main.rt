@@ -1,7 +1,7 @@
-//! Builds libraries of the toy language, edit by edit, and tells what each build gives, which units it checked, how often it asked
-//! for a check, and how many stored answers it compared. A line is a command: `put FILE TEXT`, `delete FILE`, `rename OLD NEW`,
-//! `build MAIN`, `run EVENTS`, `obsolete`, `told`. A command that finds no memory is tried once more. `serve COMMANDS PULLS MOST TEXT` is
-//! a session over the library within these bounds, which answers itself that there was no memory.
+//! Builds libraries of the toy language, edit by edit, and prints what each build gives, which units it checked, how many checks it made, and how
+//! many stored answers it compared. A line is a command: `put FILE TEXT`, `delete FILE`, `rename OLD NEW`, `build MAIN`, `run EVENTS`, `obsolete`,
+//! `told`. A command that runs out of memory is tried once more. `serve COMMANDS PULLS MOST TEXT` is a session over the library within these bounds,
+//! which itself replies that it is out of memory.
 #![tactic(auto)]
 
 ghost use Rattle.std.specs.Prelude.{◌≡◌};
@@ -27,7 +27,7 @@ fn act(library: &mut Library, word: &str, rest: &str) -> Result<Done, AllocError
     }
 }
 
-/// Tells what was done.
+/// Prints what was done.
 fn tell(library: &Library, done: Done) -> Result<String, AllocError> {
     if let Ok(printed) = library.tell(done) {
         return Ok(printed);
@@ -46,7 +46,7 @@ fn serve(library: &mut Library, words: &str) -> Result<String, AllocError> {
     }
 }
 
-/// Carries out a command, and tells what was done.
+/// Carries out a command, and prints what was done.
 fn carried_out(library: &mut Library, word: &str, rest: &str) -> Result<String, AllocError> {
     if word == "serve" {
         return serve(library, rest);

@@ -1,4 +1,4 @@
-// The predefined units of the small language as a session's library asks them.
+// The predefined units of the small language, as a session's library asks them.
 ghost use Rattle.std.specs.Prelude.{◌≡◌};
 ghost use Rattle.std.proofs.Common.{refl};
 ghost use Rattle.al_engine_refresh.specs.Settings.{ArePredefined};
@@ -17,13 +17,14 @@ pub(crate) struct Predefined {
 }
 
 impl Predefined {
+    /// The predefined units.
     pub fn new(alloc: Global) -> Self {
         Predefined {
             packages: Packages { alloc },
         }
     }
 
-    /// What a library asks of the predefined units. It does nothing.
+    /// What a library requires of the predefined units. It does nothing: its contract is the law.
     pub fn are_predefined()
         ensures { ArePredefined predefined_answer }
     {

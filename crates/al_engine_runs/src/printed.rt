@@ -1,4 +1,4 @@
-// What builds and runs say.
+// What is printed of builds and runs.
 use al_base::{Diagnostic, NoMemory, UnitKey, UnitKind};
 use al_bind::{BindFault, Line, MissingItem, Reason};
 use al_engine::Compiled;
@@ -26,7 +26,7 @@ fn push_unit(text: &mut Vec<u8>, unit: &UnitKey) -> Result<(), NoMemory> {
     Ok(())
 }
 
-/// A list of units, with a blank before each.
+/// Appends a list of units, with a blank before each.
 pub(crate) fn push_keys(text: &mut Vec<u8>, units: &[UnitKey]) -> Result<(), NoMemory> {
     for unit in units {
         text.push(b' ')?;
@@ -58,7 +58,7 @@ fn lack_text(lack: &MissingItem) -> &'static str {
     }
 }
 
-/// The name of what a program lacks, whose main unit is this.
+/// The name of what is missing in a program with this main unit.
 fn name_lacked<'a>(main: &'a [u8], lack: &'a MissingItem) -> &'a [u8] {
     match lack {
         MissingItem::Main => main,
@@ -73,7 +73,7 @@ fn push_lack(text: &mut Vec<u8>, main: &[u8], lack: &MissingItem) -> Result<(), 
     Ok(())
 }
 
-/// How many more checks were made, and how many stored answers a build compared.
+/// Appends how many more checks were made, and how many stored answers a build compared.
 pub(crate) fn push_counts(
     alloc: Global,
     text: &mut Vec<u8>,
@@ -88,7 +88,7 @@ pub(crate) fn push_counts(
     Ok(())
 }
 
-/// What a library holds of a build: how many units it checked, how many checks were made ever, how many things are wrong, and the image's size.
+/// Appends what a library holds of a build: how many units it checked, how many checks were ever made, the number of errors, and the image's size.
 pub(crate) fn push_told(
     alloc: Global,
     text: &mut Vec<u8>,
@@ -124,7 +124,7 @@ fn push_lines(text: &mut Vec<u8>, lines: &[Line]) -> Result<(), NoMemory> {
     Ok(())
 }
 
-/// What compiling gave for a main unit, on one line.
+/// Appends the result of compiling for a main unit, on one line.
 pub(crate) fn push_gave(
     alloc: Global,
     text: &mut Vec<u8>,
@@ -161,7 +161,7 @@ fn push_line(alloc: Global, text: &mut Vec<u8>, line: Option<u32>) -> Result<(),
     push_number(alloc, text, u64::from(line))
 }
 
-/// What a run put out, and how it ended.
+/// Appends the output of a run, and how it ended.
 pub(crate) fn push_ran(alloc: Global, text: &mut Vec<u8>, ran: &RunReport) -> Result<(), NoMemory> {
     text.extend_from_slice(ran.output.as_slice())?;
     text.extend_from_slice(b"end ")?;

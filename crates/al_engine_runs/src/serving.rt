@@ -25,13 +25,13 @@ impl<D: Read> Read for Short<D> {
     }
 }
 
-/// The number at the start of a text, and what stands after it.
+/// The number at the start of a string, and what follows it.
 fn number_first(text: &str) -> (u64, &str) {
     let (word, after) = text.split_once(' ').unwrap_or((text, ""));
     (word.parse::<u64>().unwrap_or(0), after)
 }
 
-/// The commands of a text in which `|` stands for each end of a line.
+/// The commands in a string in which a vertical bar is written for each end of a line.
 fn commands_of(alloc: Global, text: &str) -> Result<Vec<u8>, NoMemory> {
     let mut bytes = Vec::new(alloc);
     for byte in text.as_bytes() {
@@ -49,8 +49,8 @@ fn ended_text(ended: Result<Ended, Device>) -> &'static str {
     }
 }
 
-/// The replies of a session, and how it ended: `COMMANDS PULLS MOST TEXT` are at most so many commands and calls of the reader, of at most so
-/// many bytes each, and the text of its commands.
+/// The replies of a session, and how it ended. `COMMANDS PULLS MOST TEXT` are the greatest number of commands, of calls of the reader, and of bytes
+/// for each call, and then the commands.
 pub(crate) fn serve(
     alloc: Global,
     library: &mut Served<ToyFiles, Toy, Predefined>,

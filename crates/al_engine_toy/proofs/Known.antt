@@ -45,7 +45,7 @@ in_mentions (m ∷ ms) d is =
     Contains-append_left (map declaration (lineage m.name)) (flat_map (λ m. map declaration (lineage m.name)) ms) d
     (subst (λ (x : UnitKey). Contains (map declaration (lineage m.name)) x) same (in_lineage m.name))
 
--- the first unit that is mentioned is named by the text
+-- the first unit that is mentioned is named by the source
 pub first_is_named : (unit : UnitKey) (h : Header) (d : UnitKey) → first_named unit h ≡ Some d → Contains (named_by h) d
 unfolding named_by
 first_is_named unit h d is =
@@ -68,7 +68,7 @@ both : (b c : Bool) → (b && c) ≡ true → (b ≡ true) × (c ≡ true)
 both true c is = (refl, is)
 both false c is = absurd (cc)
 
--- a body's declaration is named by its text
+-- a body's declaration is named by its source
 pub own_is_named : (h : Header) (n : List ℕ) → is_body_of h n ≡ true → h.parent_body ≡ None → Contains (named_by h) (declaration n)
 unfolding named_by
 own_is_named h n of none =
@@ -78,7 +78,7 @@ own_is_named h n of none =
     Contains-append_right predefined_units (own_names h h.parent_body ++ rest) (declaration n)
     (Contains-append_left (own_names h h.parent_body) rest (declaration n) (subst (λ (p : Option Mention). Contains (own_names h p) (declaration n)) (sym none) named))
 
--- no text of the toy names a parent body
+-- no source of the toy names a parent body
 no_parent_of : (form : ℕ) (names : List (List ℕ)) → (header_of form names).parent_body ≡ None
 no_parent_of form [] = refl
 no_parent_of form (n ∷ ns) = refl

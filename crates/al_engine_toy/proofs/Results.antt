@@ -1,4 +1,4 @@
--- What holds of a result where it is no error.
+-- What is known of a result if it is no error.
 use Rattle.std.proofs.Common.{Result, Ok, Err}
 use Rattle.std.specs.Prelude.{IfOk, OnOk}
 

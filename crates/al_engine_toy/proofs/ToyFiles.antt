@@ -19,7 +19,7 @@ use Rattle.al_unit_graph.specs.declared.header.UnitForm.TheVariants.{PackageDecl
 use Rattle.al_unit_faults.specs.Read.{AreHeaded, NameParentBodies, NamesParentBody}
 use Rattle.al_engine_toy.specs.Toys.{AreToys, ToysAreRead, header_in, header_of, is_main, source_of, texts_of, toy_library, words_from}
 
--- ---- what is put in by ascending names stands in that order
+-- ---- files that are added by ascending names are in that order
 
 module _ {A : Type 0} (v : A → List ℕ × List ℕ) where
   -- what holds of each name holds of the one of an item
@@ -36,7 +36,7 @@ module _ {A : Type 0} (v : A → List ℕ × List ℕ) where
       let above : name_cmp (v a).0 (v x).0 ≡ Greater = nat_list_cmp_total.antisymm (v a).0 (v x).0 ∙ ap ordering_reverse (below_item xs (v x).0 i a sorted.0 (omega (arith, within)) is) in
       rw above (ap (λ es. ((v x).0, source_of (v x).1) ∷ es) (next_file xs i a sorted.1 (omega (arith, within)) is))
 
--- ---- a library and its texts
+-- ---- a library and its sources
 
 pub no_library : toy_library [] ≡ []
 unfolding toy_library
@@ -47,7 +47,7 @@ unfolding toy_library
 texts_of-library [] = refl
 texts_of-library (f ∷ fs) = ap (λ gs. f ∷ gs) (texts_of-library fs)
 
--- a library of texts is that of its own texts
+-- a library of sources is that of its own sources
 pub are_toys : (lib : Library) (files : Texts) → lib ≡ toy_library files → AreToys lib
 are_toys lib files is = is ∙ ap toy_library (sym (ap texts_of is ∙ texts_of-library files))
 
@@ -59,7 +59,7 @@ its_text : (source : Source) (text : Option (List ℕ)) → option_map source_of
 its_text source None is = absurd (cc)
 its_text source (Some t) is = let whole : source_of t ≡ source = cc in sym (ap (λ (s : Source). source_of s.text) whole) ∙ whole
 
--- a file that was looked up is that of its text
+-- a file that was looked up is that of its source
 pub toy_at : (lib : Library) → AreToys lib → (file : List ℕ) (source : Source) → source_at lib file ≡ Some source → source_of source.text ≡ source
 toy_at lib are file source is =
     its_text source (text_of (texts_of lib) file) (sym (source_of_file (texts_of lib) file) ∙ ap (λ (l : Library). source_at l file) (sym are) ∙ is)

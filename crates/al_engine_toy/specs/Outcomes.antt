@@ -22,7 +22,7 @@ use Rattle.al_query_outcome.specs.Tables.{interface_of}
 use Rattle.al_query_outcome.specs.declared.interface.Parts.{Parts}
 use Rattle.al_query_outcome.specs.declared.interface.Properties.{Properties}
 
--- what a unit is known by
+-- the symbol of a unit
 abbrev pub own_symbol : UnitKey → Symbol
 own_symbol unit = record { unit = unit; name = last_of unit.name; number = 0 }
 
@@ -48,11 +48,11 @@ does statements = record { line = 1; frame = 0; declarations = []; statements = 
 abbrev pub puts_name : UnitKey → StatementTree
 puts_name unit = Numbered 1 (PutStatement (TextPiece unit.name ∷ []) true)
 
--- a procedure of the unit's last name that does nothing
+-- a procedure with the unit's last name that does nothing
 abbrev pub own_body : UnitKey → BodyTree
 own_body unit = record { symbol = own_symbol unit; kind = Procedure 0; depth = 1; formals = []; inside = does [] }
 
--- elaborated, it puts out its name
+-- the elaboration that puts its name
 abbrev pub tree : UnitKey → UnitTree
 tree unit = record {
   unit = unit;
@@ -64,15 +64,15 @@ tree unit = record {
   protected_objects = [];
 }
 
--- a unit without faults: its parent is this, and it is private where its text is marked
+-- a unit without errors, with this parent; it is private if its source is marked
 unfoldable pub plain : UnitKey → Option UnitKey → Bool → Outcome
 plain unit parent marked = Sound (interface_of (properties unit parent marked) no_parts) (tree unit)
 
--- a fault at the first place
+-- an error at the first place
 unfoldable pub faulty : UnitKey → Outcome
 faulty unit = Faulty (record { file = file_name_of (key_of unit); place = record { line = 1; col = 1 }; code = 401 } ∷ [])
 
--- of a predefined unit, that it is a package; nothing else of it
+-- a predefined unit answers that it is a package, and nothing else
 abbrev pub predefined_answer : Query → AnswerKind
 predefined_answer (Of unit property.Kind) = answers.Kind (OfPackage (own_symbol unit))
 predefined_answer (Of unit property.Parent) = answers.Nothing

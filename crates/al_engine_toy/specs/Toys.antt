@@ -1,7 +1,7 @@
--- The toy checker and its language. A text is a byte for what the unit is, a byte for whether it is marked, its name, and the names
--- of the units that it mentions, with blanks between names. A unit's parent is the first unit that it mentions, and a unit is faulty
--- where the parent of its parent is marked, or where it is a body to which its declaration leaves something, or no unit of the
--- language. So a check asks a unit of which its text says nothing.
+-- The toy checker and its language. A source is a byte for the kind of the unit, a byte for whether it is marked, its name, and the names of the
+-- units that it mentions, with blanks between names. A unit's parent is the first unit that it mentions. A unit has an error if the parent of its
+-- parent is marked, if it is a body to which its declaration leaves something, or if it is no unit of the language. So a check also asks a unit that
+-- its source doesn't name.
 use Rattle.std.specs.Prelude.{ℕ, ◌≡◌, ◌==◌, Bool, true, false, ◌&&◌, List, [], ◌∷◌, ◌++◌, map, Option, Some, None, if◌then◌else◌}
 use Rattle.std.specs.Str.{bytes_eq}
 use Rattle.al_base.specs.Files.{Texts}
@@ -28,7 +28,7 @@ use Rattle.al_query_outcome.specs.ReadsLaw.{NamesOnly, is_by_names, is_of_anothe
 use Rattle.al_query_outcome.specs.Results.{Outcome}
 use Rattle.al_engine_toy.specs.Outcomes.{faulty, plain}
 
--- `m` stands for the body of a main procedure, all else for a package
+-- `m` is the body of a main procedure, all else a package
 abbrev pub is_main : ℕ → Bool
 is_main b = b == 109
 
@@ -56,17 +56,17 @@ header_with name form main mentions = record {
   is_parameterless_procedure = main;
 }
 
--- the words of a text after the front of a word: what stands between blanks
+-- the words of a source after the beginning of a word, between blanks
 abbrev pub words_from : List ℕ → List ℕ → List (List ℕ)
 words_from word [] = word ∷ []
 words_from word (b ∷ bs) = if b == 32 then word ∷ words_from [] bs else words_from (word ++ b ∷ []) bs
 
--- what a unit says of itself whose name is the first of these, and that mentions the others
+-- the header of a unit whose name is the first of these, and that mentions the others
 abbrev pub header_of : ℕ → List (List ℕ) → Header
 header_of form [] = header_with [] PackageDeclaration false []
 header_of form (name ∷ mentions) = header_with name (form_of form) (is_main form) (map mention_of mentions)
 
--- what a text says of its unit
+-- the header of a source
 abbrev pub header_in : List ℕ → Header
 header_in (form ∷ mark ∷ names) = header_of form (words_from [] names)
 header_in _ = header_with [] PackageDeclaration false []
@@ -76,23 +76,23 @@ abbrev pub is_marked : List ℕ → Bool
 is_marked (form ∷ mark ∷ rest) = mark == 33
 is_marked _ = false
 
--- the file of a text
+-- the file of a source
 abbrev pub source_of : List ℕ → Source
 source_of text = record { text = text; contents = Headed (header_in text) }
 
--- the library of the texts
+-- the library of the sources
 unfoldable pub toy_library : Texts → Library
 toy_library files = map (λ file. (file.0, source_of file.1)) files
 
--- the texts of a library
+-- the sources of a library
 abbrev pub texts_of : Library → Texts
 texts_of lib = map (λ file. (file.0, file.1.text)) lib
 
--- a library is that of its texts
+-- a library is that of its sources
 abbrev pub AreToys : Library → Type 0
 AreToys lib = lib ≡ toy_library (texts_of lib)
 
--- equal texts are read alike in any two libraries; each unit's header is that of its text; none names a parent body
+-- equal sources are parsed alike in any two libraries; each unit's header is that of its source; none names a parent body
 pub record ToysAreRead : Type 0 where
   pub headed : (files : Texts) → AreHeaded header_in (toy_library files)
   pub bodies : (files : Texts) → NameParentBodies (toy_library files)
@@ -131,7 +131,7 @@ abbrev pub is_nothing : List Completion → Bool
 is_nothing [] = true
 is_nothing (c ∷ cs) = false
 
--- the text is that of a library subprogram's body with this name
+-- the source is that of a library subprogram's body with this name
 abbrev pub is_body_of : Header → List ℕ → Bool
 is_body_of h name = is_subprogram_body h.form && bytes_eq h.name name
 
@@ -145,7 +145,7 @@ is_whole_as Sub name h t = false
 abbrev pub is_whole : UnitKey → Header → Table → Bool
 is_whole unit h t = is_whole_as unit.kind unit.name h t
 
--- the outcome of a unit with a text under a table of answers
+-- the outcome of a unit with a source under a table of answers
 abbrev pub toy_meaning : UnitKey → List ℕ → (Query → AnswerKind) → Outcome
 toy_meaning unit text t =
     if is_whole unit (header_in text) t then by_first unit (is_marked text) (first_named unit (header_in text)) t else faulty unit
@@ -163,7 +163,7 @@ may_ask unit words log q = is_of_another unit q && is_by_names unit words q
 abbrev pub AsksWell : UnitKey → Header → Log → Log → Type 0
 AsksWell unit h old log = (words : List (List ℕ)) → AsksOf (named_by h) (may_ask unit words) old log
 
--- it asked the unit that it names first for its parent
+-- the check asked the unit that the source names first for its parent
 pub record HasParent (unit : UnitKey) (h : Header) (first : UnitKey) (a : AnswerKind) (old log : Log) : Type 0 where
   pub named : first_named unit h ≡ Some first
   pub answered : FromAnswers old log (λ t. t (Of first Parent) ≡ a)
@@ -177,7 +177,7 @@ pub record IsJudged (unit : UnitKey) (h : Header) (marked : Bool) (old log : Log
   pub names : NamesOnly (unit ∷ known_after (named_by h) log) outcome
   pub toys : IsToys unit outcome
 
--- a check of a unit with this text asked these questions, and gave this
+-- a check of a unit with this source asked these questions, and gave this
 pub record IsChecked (unit : UnitKey) (text : List ℕ) (log : Log) (outcome : Outcome) : Type 0 where
   pub meaning : HoldsBy log (λ t. outcome ≡ toy_meaning unit text t)
   pub asks : AsksWell unit (header_in text) [] log

@@ -61,7 +61,7 @@ fn declaration_of(alloc: Global, unit: &UnitKey) -> Result<UnitKey, NoMemory>
     Ok(UnitKey { name, kind })
 }
 
-/// Whether the declaration of a body of a main procedure leaves it nothing.
+/// Whether the declaration of a main procedure's body leaves nothing to that body.
 fn is_whole_body<A: Answers>(
     alloc: Global,
     unit: &UnitKey,
@@ -127,7 +127,7 @@ fn another<'a>(unit: &UnitKey, other: Option<&'a UnitKey>) -> Option<&'a UnitKey
     }
 }
 
-/// What a unit is whose parent is the first unit, and that one's parent the second.
+/// The result for a unit whose parent is the first unit, and whose parent's parent is the second.
 fn judge_by_second<A: Answers>(
     alloc: Global,
     unit: &UnitKey,
@@ -147,7 +147,7 @@ fn judge_by_second<A: Answers>(
     }
 }
 
-/// What a unit is whose parent is this one.
+/// The result for a unit with this parent.
 fn judge_by_first<A: Answers>(
     alloc: Global,
     unit: &UnitKey,
@@ -165,7 +165,7 @@ fn judge_by_first<A: Answers>(
     }
 }
 
-/// What a unit of the language with a text is.
+/// The result for a unit of the language.
 fn judge<A: Answers>(
     alloc: Global,
     unit: &UnitKey,
@@ -182,7 +182,7 @@ fn judge<A: Answers>(
     }
 }
 
-/// What a unit with a text is.
+/// The result for a unit with this source.
 fn checked<A: Answers>(
     alloc: Global,
     unit: &UnitKey,
@@ -201,7 +201,7 @@ fn checked<A: Answers>(
     }
 }
 
-/// What a unit with a text is, as it was read.
+/// The result for a unit with this source, as it was parsed.
 fn checked_text<A: Answers>(
     alloc: Global,
     unit: &UnitKey,
@@ -215,14 +215,14 @@ fn checked_text<A: Answers>(
     checked(alloc, unit, text.as_slice(), recorder)
 }
 
-/// A checker that asks its unit's parent for a parent, and that one whether it is marked.
+/// The toy checker: it asks its unit's parent for a parent, and that one whether it is marked.
 #[derive(Drop)]
 pub struct Toy {
     made: u64,
 }
 
 impl Toy {
-    /// A checker that made no check.
+    /// A checker that has made no check.
     pub fn new() -> Toy
         ensures { result.made ≡ 0 }
     {

@@ -1,4 +1,4 @@
-// The files of a library of texts.
+// The files of a toy library.
 ghost use Rattle.std.specs.Prelude.{◌≡◌, ◌≤◌, IfOk, IfSome, OnOk, length};
 ghost use Rattle.std.specs.BTreeMap.{insert_entry};
 ghost use Rattle.al_base.specs.Files.{name_cmp};
@@ -12,12 +12,12 @@ use al_unit_graph::{Contents, Source, Sources};
 use std::alloc::Global;
 use std::rc::Rc;
 
-/// Each unit's header is that of its text, and equal texts are read alike. It does nothing.
+/// Each unit's header is that of its source, and equal sources are parsed alike. It does nothing: its contract is the law.
 pub fn toys_are_read()
     ensures { ToysAreRead }
 {}
 
-/// The file of a text.
+/// The file with this source.
 fn source_of(alloc: Global, text: &Rc<Vec<u8>>) -> Result<Rc<Source>, NoMemory>
     ensures { IfOk result (λ source. source_model source.value ≡ source_of text.now.value.items) }
 {
@@ -29,7 +29,7 @@ fn source_of(alloc: Global, text: &Rc<Vec<u8>>) -> Result<Rc<Source>, NoMemory>
     }
 }
 
-/// What is held of a file, where it has this text.
+/// The file as it was before, if it had this source.
 fn held_with<'a>(before: &'a Sources, file: &[u8], text: &[u8]) -> Option<&'a Rc<Source>>
     requires { AreToys before.now }
     ensures { IfSome result (λ source. source_model source.now.value ≡ source_of text.now) }
@@ -41,7 +41,7 @@ fn held_with<'a>(before: &'a Sources, file: &[u8], text: &[u8]) -> Option<&'a Rc
     Some(source)
 }
 
-/// The file of a text: shared where the file had this text before, and else read.
+/// The file with this source: shared if it had this source before, and else parsed.
 fn held_after(
     alloc: Global,
     before: &Sources,
@@ -58,7 +58,7 @@ fn held_after(
     source_of(alloc, text)
 }
 
-/// Puts a file in.
+/// Adds a file.
 fn add_file(
     alloc: Global,
     before: &Sources,
@@ -75,11 +75,11 @@ fn add_file(
     sources.insert(name, source)
 }
 
-/// The files of these texts. What was read before of a file with the same text is shared.
+/// The files with these sources. A file that had the same source before is shared.
 ///
 /// # Errors
 ///
-/// `NoMemory` where memory was wanted and not given.
+/// `NoMemory` if the allocator refuses memory.
 pub fn sources_after(alloc: Global, files: &Files, before: &Sources) -> Result<Sources, NoMemory>
     requires { AreToys before.now }
     ensures { IfOk result (λ sources. sources ≡ toy_library files.now) }
@@ -92,11 +92,11 @@ pub fn sources_after(alloc: Global, files: &Files, before: &Sources) -> Result<S
     Ok(sources)
 }
 
-/// The files of these texts.
+/// The files with these sources.
 ///
 /// # Errors
 ///
-/// `NoMemory` where memory was wanted and not given.
+/// `NoMemory` if the allocator refuses memory.
 pub fn sources_of(alloc: Global, files: &Files) -> Result<Sources, NoMemory>
     ensures sources { IfOk result (λ sources. sources ≡ toy_library files.now) }
     ensures headed { IfOk result (λ sources. AreHeaded header_in sources) }

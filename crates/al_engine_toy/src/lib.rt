@@ -1,5 +1,8 @@
-//! A small checker of units over a small language, for tests of what is proved for every checker. A unit's parent is the first unit
-//! that it mentions; a unit is faulty where the parent of its parent is marked. Elaborated, a unit puts out its name.
+//! A small checker of units over a small language, for tests of what is proved for every checker. A unit's parent is the first unit that it
+//! mentions. A unit has an error if the parent of its parent is marked. When a unit is elaborated, it prints its name.
+//!
+//! - `text`, `reading` and `files` are the language: the header of a unit is read from its source.
+//! - `checker` is the checker, `outcomes` its results, `packages` the predefined units.
 #![tactic(auto)]
 
 mod checker;

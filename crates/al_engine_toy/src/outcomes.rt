@@ -15,7 +15,7 @@ use al_view_typed::{
 };
 use std::alloc::Global;
 
-/// What a unit is known by.
+/// A unit's own symbol.
 fn own_symbol(alloc: Global, unit: &UnitKey) -> Result<Symbol, NoMemory>
     ensures { IfOk result (λ symbol. symbol ≡ own_symbol unit.now) }
 {
@@ -35,7 +35,7 @@ pub(crate) fn own_view(alloc: Global, unit: &UnitKey) -> Result<View, NoMemory>
     Ok(view)
 }
 
-/// What a unit without faults says of itself.
+/// The properties of a unit without errors.
 fn properties(
     alloc: Global,
     unit: &UnitKey,
@@ -73,7 +73,7 @@ fn no_parts(alloc: Global) -> Parts
     }
 }
 
-/// A line with a unit's name is put out.
+/// An elaboration that puts a line with a unit's name.
 fn puts_name(alloc: Global, unit: &UnitKey) -> Result<Elaboration, NoMemory>
     ensures { IfOk result (λ e. elaboration_model e ≡ does (puts_name unit.now ∷ [])) }
 {
@@ -85,7 +85,7 @@ fn puts_name(alloc: Global, unit: &UnitKey) -> Result<Elaboration, NoMemory>
     Ok(Elaboration::new(1, 0, Vec::new(alloc), statements))
 }
 
-/// A procedure of the unit's last name that does nothing.
+/// A procedure with the unit's last name that does nothing.
 fn own_body(alloc: Global, unit: &UnitKey) -> Result<TypedBody, NoMemory>
     ensures { IfOk result (λ body. body_model body ≡ own_body unit.now) }
 {
@@ -114,7 +114,7 @@ fn tree(alloc: Global, unit: &UnitKey) -> Result<TypedUnit, NoMemory>
     ))
 }
 
-/// A unit without faults, with this parent.
+/// A unit without errors, with this parent.
 #[tactic(auto, unfolding(crate::specs::Outcomes::plain))]
 pub(crate) fn plain(
     alloc: Global,
@@ -130,7 +130,7 @@ pub(crate) fn plain(
     Ok(Checked::Sound(interface, tree))
 }
 
-/// A fault at the first place of the unit's file.
+/// An error at the first place of the unit's file.
 #[tactic(auto, unfolding(crate::specs::Outcomes::faulty))]
 pub(crate) fn faulty(alloc: Global, unit: &UnitKey) -> Result<Checked, NoMemory>
     ensures { IfOk result (λ checked. checked_model checked ≡ faulty unit.now) }

@@ -1,4 +1,4 @@
-// What the predefined units answer.
+// The predefined units of the small language.
 ghost use Rattle.std.specs.Prelude.{◌≡◌, IfOk};
 ghost use Rattle.al_engine_refresh.specs.Settings.{ArePredefined};
 ghost use Rattle.al_engine_toy.specs.Outcomes.{own_symbol, predefined_answer};
@@ -14,11 +14,12 @@ use std::alloc::Global;
 /// The predefined units: packages that declare nothing.
 #[derive(Drop)]
 pub struct Packages {
+    /// The allocator of answers.
     pub alloc: Global,
 }
 
 impl Packages {
-    /// The predefined units are there, and name none but themselves. It does nothing.
+    /// The predefined units are there, and name only themselves. It does nothing: its contract is the law.
     pub fn are_predefined()
         ensures { ArePredefined predefined_answer }
     {}

@@ -1,4 +1,4 @@
-// What a text says of its unit.
+// The header of a unit, read from its source.
 ghost use Rattle.std.specs.Prelude.{ℕ, ◌≡◌, List, ◌∷◌, ◌++◌, [], false, IfOk, OnOk, map};
 ghost use Rattle.al_unit_graph.specs.Views.{header_model, mention_model};
 ghost use Rattle.al_unit_graph.specs.declared.header.UnitForm.TheVariants.{PackageDeclaration};
@@ -10,7 +10,7 @@ use al_view::is_unit;
 use std::alloc::Global;
 use std::mem;
 
-/// What a unit is, by its byte.
+/// The form of a unit, by its byte.
 fn form_of(form: u8) -> UnitForm
     ensures { result ≡ form_of form }
 {
@@ -21,7 +21,7 @@ fn form_of(form: u8) -> UnitForm
     }
 }
 
-/// Reads one more byte after whole words and the front of one.
+/// Reads one more byte, after whole words and the beginning of one.
 fn read_byte(
     alloc: Global,
     words: &mut Vec<Vec<u8>>,
@@ -39,7 +39,7 @@ fn read_byte(
     Ok(())
 }
 
-/// The words of a text, which blanks part.
+/// The words of a source, which blanks separate.
 fn words_of(alloc: Global, text: &[u8]) -> Result<Vec<Vec<u8>>, NoMemory>
     ensures { IfOk result (λ words. map (λ w. w.items) words.items ≡ words_from [] text.now) }
 {
@@ -52,7 +52,7 @@ fn words_of(alloc: Global, text: &[u8]) -> Result<Vec<Vec<u8>>, NoMemory>
     Ok(words)
 }
 
-/// The unit of that name, as it is mentioned.
+/// A mention of the unit with this name.
 fn mention_of(alloc: Global, name: &[u8]) -> Result<Mention, NoMemory>
     ensures { IfOk result (λ mention. mention_model mention ≡ mention_of name.now) }
 {
@@ -61,7 +61,7 @@ fn mention_of(alloc: Global, name: &[u8]) -> Result<Mention, NoMemory>
     Ok(Mention { name, place })
 }
 
-/// The units of these names, as they are mentioned.
+/// Mentions of the units with these names.
 fn mentions_of(alloc: Global, names: &[Vec<u8>]) -> Result<Vec<Mention>, NoMemory>
     ensures { IfOk result (λ mentions. map mention_model mentions.items ≡ map mention_of (map (λ n. n.items) names.now)) }
 {
@@ -119,7 +119,7 @@ fn header_of(alloc: Global, form: u8, names: &[Vec<u8>]) -> Result<Header, NoMem
     }
 }
 
-/// The header of a text that has no name.
+/// The header of a source that has no name.
 fn no_header(alloc: Global) -> Result<Header, NoMemory>
     ensures { IfOk result (λ header. header_model header ≡ header_with [] PackageDeclaration false []) }
 {
@@ -127,7 +127,7 @@ fn no_header(alloc: Global) -> Result<Header, NoMemory>
     header_with(alloc, &[], UnitForm::PackageDeclaration, false, mentions)
 }
 
-/// The header of a text.
+/// The header of a source.
 pub(crate) fn header_in(alloc: Global, text: &[u8]) -> Result<Header, NoMemory>
     ensures { IfOk result (λ header. header_model header ≡ header_in text.now) }
 {
@@ -139,7 +139,7 @@ pub(crate) fn header_in(alloc: Global, text: &[u8]) -> Result<Header, NoMemory>
     }
 }
 
-/// The declaration of the first unit that a header mentions, where that isn't the unit itself.
+/// The declaration of the first unit that a header mentions, if that isn't the unit itself.
 fn named_in(alloc: Global, unit: &UnitKey, header: &Header) -> Result<Option<UnitKey>, NoMemory>
     ensures { IfOk result (λ named. named ≡ first_named unit.now (header_model header.now)) }
 {
@@ -157,7 +157,7 @@ fn named_in(alloc: Global, unit: &UnitKey, header: &Header) -> Result<Option<Uni
     }
 }
 
-/// The same of a text.
+/// The declaration of the first unit that a source mentions, if that isn't the unit itself.
 pub(crate) fn first_named(
     alloc: Global,
     unit: &UnitKey,
@@ -169,7 +169,7 @@ pub(crate) fn first_named(
     named_in(alloc, unit, &header)
 }
 
-/// Whether a text is that of a library subprogram's body with this name.
+/// Whether a source is that of a library subprogram's body with this name.
 pub(crate) fn is_body_of(alloc: Global, text: &[u8], name: &[u8]) -> Result<bool, NoMemory>
     ensures { IfOk result (λ is. is ≡ is_body_of (header_in text.now) name.now) }
 {
@@ -177,7 +177,7 @@ pub(crate) fn is_body_of(alloc: Global, text: &[u8], name: &[u8]) -> Result<bool
     Ok(is_subprogram_body(header.form) && header.name.as_slice() == name)
 }
 
-/// Whether a text is marked.
+/// Whether a source is marked.
 pub(crate) fn is_marked(text: &[u8]) -> bool
     ensures { result ≡ is_marked text.now }
 {

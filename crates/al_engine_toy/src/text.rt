@@ -1,4 +1,4 @@
-// Texts of the small language, as their check takes them.
+// Sources of the small language, as their check takes them.
 ghost use Rattle.std.specs.Prelude.{◌≡◌};
 
 use al_base::NoMemory;
@@ -7,7 +7,7 @@ use std::alloc::Global;
 use std::marker::Model;
 use std::rc::Rc;
 
-/// A text of the small language, of which nothing is read before its check.
+/// A source of the small language, of which nothing is read before its check.
 #[derive(Drop)]
 pub struct ToyText {
     bytes: Rc<Vec<u8>>,
@@ -22,7 +22,7 @@ impl Model for ToyText {
 }
 
 impl ToyText {
-    /// The bytes of the text.
+    /// The bytes of the source.
     pub fn as_slice(&self) -> &[u8]
         ensures { result.now ≡ self.now }
     {

@@ -31,7 +31,7 @@ use Rattle.al_link.proofs.ShapeLemmas.{AreAlike, counts_same, words_same, elabor
 abbrev lines_in : ImageParts → Option (List LineEntry)
 lines_in p = option_map (λ v. v.items) p.lines
 
--- the code of units goes by their objects alone
+-- the code of units depends only on their objects
 pub linked_located : (places : Places) (start : List ℕ) (b : Bases) (us : List UnitObject) → linked places start (located b us) ≡ linked_units places start us
 linked_located places start b [] = refl
 linked_located places start b (u ∷ us) = linked_located places (with_unit places start u) (next_bases b u.object) us

@@ -78,7 +78,7 @@ module _ (x : LinkSymbol) where
   units-stay [] ps h = h
   units-stay (l ∷ ls) ps h = units-stay ls (with_defines ps l) (all-stay l l.object.defines ps h)
 
-  -- after what stands before a unit
+  -- after what precedes a unit
   units-added : (at : Located) (us : List UnitObject) (ps : Places) → Contains (defined_in us) x → Stands (fold with_defines ps (located at.before us))
   units-added at [] ps c = absurd (nowhere x c)
   units-added at (u ∷ us) ps c =

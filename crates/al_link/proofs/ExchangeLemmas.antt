@@ -94,7 +94,7 @@ lines_length (Some es) = length-append (word_bytes (length es)) (flat_map entry_
 abbrev lines_in : ImageParts → Option (List LineEntry)
 lines_in p = option_map (λ v. v.items) p.lines
 
--- what stands before the code
+-- what precedes the code
 abbrev before_code : ImageParts → List ℕ → List ℕ
 before_code p code = front_bytes (parts.image_of p) ++ word_bytes (length code)
 

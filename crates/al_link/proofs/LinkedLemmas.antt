@@ -56,7 +56,7 @@ word_written start old rest n place at len =
     let last : drop (place + 4) (start ++ (old ++ rest)) ≡ rest = ap (λ (xs : List ℕ). drop (place + 4) xs) late ∙ drop_at (start ++ old) rest (place + 4) n2 in
     rw (test, take_at start (old ++ rest) place (sym at), last) refl
 
--- where the operand stands in an instruction's bytes
+-- the place of the operand in an instruction's bytes
 split : (start : List ℕ) (op : ℕ) (word tail rest : List ℕ) → start ++ ((op ∷ (word ++ tail)) ++ rest) ≡ (start ++ op ∷ []) ++ (word ++ (tail ++ rest))
 split start op word tail rest = ap (λ (xs : List ℕ). start ++ op ∷ xs) (append_assoc word tail rest) ∙ sym (append_assoc start (op ∷ []) (word ++ (tail ++ rest)))
 
@@ -116,7 +116,7 @@ pub shifted_length : (i : Instr) (h : HasWord i) (v : ℕ) → length (encoded (
 shifted_length i h v =
     ap length (h.moves v) ∙ omega (arith, length-append (word_bytes ((h.number + v) % 2 ^ 32)) h.tail, length-append (word_bytes h.number) h.tail, word_length ((h.number + v) % 2 ^ 32), word_length h.number) ∙ sym (ap length h.is)
 
--- the first piece's bytes, on either side of where linking has come to
+-- the first piece's bytes, on either side of the place that linking has reached
 moved : (places : Places) (base : ℕ) (before done rest_after x y : List ℕ) (us : List Relocation) (ps : List Part) (qs : List ℕ)
     → patched places ((before ++ x) ++ code_of ps) base ((done ++ y) ++ (code_of ps ++ rest_after)) us ≡ (done ++ y) ++ (qs ++ rest_after)
     → patched places (before ++ (x ++ code_of ps)) base (done ++ ((y ++ code_of ps) ++ rest_after)) us ≡ done ++ ((y ++ qs) ++ rest_after)

@@ -37,7 +37,7 @@ linked_length places (Using i symbol ∷ ps) all =
     let one : length (encoded (shifted v i)) ≡ length (encoded i) = shifted_length i (has_word i symbol (All-head IsPart (Using i symbol) ps all)) v in
     length-append (encoded (shifted v i)) (parts.code_of (map (linked_part places) ps)) ∙ ap (λ (n : ℕ). length (encoded (shifted v i)) + n) ih ∙ ap (λ (n : ℕ). n + length (parts.code_of ps)) one ∙ sym (length-append (encoded i) (parts.code_of ps))
 
--- an object's code that is linked where other code stands after it, and where none does
+-- an object's code that is linked with other code after it, and without
 written_front : (places : Places) (done rest : List ℕ) (o : CompiledCode) → Keeps o → take (length done + length o.code) (patched places o.code (length done) (done ++ (o.code ++ rest)) o.uses) ≡ patched places o.code (length done) (done ++ o.code) o.uses
 written_front places done rest o keeps =
     let ps : List Part = keeps.code.parts in
@@ -53,7 +53,7 @@ written_front places done rest o keeps =
     ∙ take_at (done ++ made) rest (length done + length o.code) (omega (arith, length-append done made, n))
     ∙ sym alone
 
--- an object's code that was copied over what stands at its place and then linked
+-- an object's code that was copied over what is at its place and then linked
 pub object_put : (places : Places) (code : List ℕ) (o : CompiledCode) (base stop : ℕ) (ys from : List ℕ) (us : List Relocation) (new : List ℕ) → Keeps o → base + length o.code ≤ length code → ys ≡ o.code → from ≡ o.code → us ≡ o.uses → new ≡ patched places from base (put_mid base (stop - base) code ys) us → take (base + length o.code) new ≡ patched places o.code base (take base code ++ o.code) o.uses
 object_put places code o base stop ys from us new keeps fits y f u e =
     let done : List ℕ = take base code in

@@ -1,4 +1,4 @@
--- A unit's code goes by the places and the unit alone, wherever it stands.
+-- A unit's code depends only on the places and the unit, wherever it is.
 use Rattle.std.proofs.Common.{◌≡◌, ℕ, zero, suc, ◌+◌, ◌-◌, ◌%◌, ◌^◌, ◌<◌, ◌≤◌, Bool, true, false, cond, leb, List, [], ◌∷◌, ◌++◌, length, take, drop, set, get_or, refl, sym, ap, ◌∙◌, append_assoc, append-nil, arith, length-append, length-drop}
 use Rattle.std.specs.List.{All, flat_map}
 use Rattle.std.proofs.Math.Seq.{take-append-add, drop-append-add}
@@ -91,7 +91,7 @@ pieces places start (u ∷ us) =
 
 -- ---- bytes that are written over others
 
--- .. which stand between others
+-- bytes that are between others
 over_middle : (a b c ys : List ℕ) (place : ℕ) → length a ≡ place → length ys ≡ length b → with_bytes (a ++ (b ++ c)) place ys ≡ a ++ (ys ++ c)
 over_middle a b c ys place at same =
     let front : take place (a ++ (b ++ c)) ≡ a = take_at a (b ++ c) place at in
@@ -99,7 +99,7 @@ over_middle a b c ys place at same =
     let back : drop (place + length ys) (a ++ (b ++ c)) ≡ c = ap (λ (xs : List ℕ). drop (place + length ys) xs) (sym (append_assoc a b c)) ∙ drop_at (a ++ b) c (place + length ys) n in
     ap (λ (xs : List ℕ). xs ++ (ys ++ drop (place + length ys) (a ++ (b ++ c)))) front ∙ ap (λ (xs : List ℕ). a ++ (ys ++ xs)) back
 
--- .. in a list that stands between others
+-- bytes in a list that is between others
 pub over_within : (front code rest ys : List ℕ) (at place : ℕ) → length front ≡ at → place + length ys ≤ length code → with_bytes (front ++ (code ++ rest)) (at + place) ys ≡ front ++ (with_bytes code place ys ++ rest)
 over_within front code rest ys at place is fits =
     let a : List ℕ = take place code in

@@ -63,16 +63,16 @@ none_large (l ∷ ls) (u ∷ us) e =
     let tails : shapes_left ls ≡ shapes_kept us = cc in
     rw (one_not_large l.key.now l.object.now (shape_of u) heads) (none_large ls us tails)
 
--- ---- what goes by the shapes of units alone
+-- ---- what depends only on the shapes of units
 
--- what stands before the next unit
+-- what precedes the next unit
 abbrev next_of : Bases → Shape → Bases
 next_of b s = record { code = b.code + s.size; words = b.words + s.data_words; objects = b.objects + s.regions; tasks = b.tasks + s.tasks }
 
 abbrev pub AreAlike : List UnitObject → List UnitObject → Type 0
 AreAlike us vs = map shape_of us ≡ map shape_of vs
 
--- a recursion over units with what stands before them
+-- a recursion over units with what precedes them
 module _ {R : Type 0} (none : R) (step : Bases → Shape → R → R) (f : Bases → List UnitObject → R)
     (ends : (b : Bases) → f b [] ≡ none) (steps : (b : Bases) (u : UnitObject) (us : List UnitObject) → f b (u ∷ us) ≡ step b (shape_of u) (f (next_of b (shape_of u)) us)) where
   same_along : (b : Bases) (us vs : List UnitObject) → AreAlike us vs → f b us ≡ f b vs

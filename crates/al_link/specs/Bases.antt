@@ -1,11 +1,11 @@
--- How much stands before an object, and how much an image may hold.
+-- What precedes an object in an image, and how much an image may hold.
 use Rattle.std.specs.Prelude.{ℕ, ◌+◌, ◌≤◌, length}
 use Rattle.al_view.specs.declared.link.LinkKind.{LinkKind}
 use Rattle.al_view.specs.declared.link.LinkKind.TheVariants as kind
 use Rattle.al_code_object.specs.Objects.{CompiledCode}
 use Rattle.al_link.specs.declared.bases.Bases.{Bases}
 
--- what stands before the next object
+-- what precedes the next object
 abbrev pub next_bases : Bases → CompiledCode → Bases
 next_bases b o = record {
   code = b.code + length o.code;

@@ -18,6 +18,6 @@ pub record AreClosed (main : LinkSymbol) (us : List UnitObject) : Type 0 where
   pub main_defined : Contains (defined_in us) main
   pub all_defined : (x : LinkSymbol) → Contains (used_in us) x → Contains (defined_in us) x
 
--- .. where each unit has an object; else there is no image
+-- this holds if each unit has an object; else there is no image
 abbrev pub AreClosedUnits : LinkSymbol → List CompiledUnit → Type 0
 AreClosedUnits main us = some_large us ≡ false → AreClosed main (compiled_units us)

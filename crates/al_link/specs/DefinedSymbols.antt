@@ -1,4 +1,4 @@
--- What is looked up where an image is made.
+-- The symbols that are looked up when an image is made.
 use Rattle.std.specs.Prelude.{◌≡◌, ◌⊎◌, ℕ, List, Some}
 use Rattle.std.specs.List.{Contains}
 use Rattle.std.specs.Map.{lookup}
@@ -9,11 +9,11 @@ use Rattle.al_link.specs.Linking.{places_of}
 use Rattle.al_link.specs.Symbols.{same_link_symbol}
 use Rattle.al_link.specs.Units.{UnitObject}
 
--- these symbols are looked up where an image is made
+-- these symbols are looked up when an image is made
 abbrev pub IsLookedUp : LinkSymbol → List UnitObject → LinkSymbol → Type 0
 IsLookedUp main us x = (x ≡ main) ⊎ Contains (used_in us) x
 
--- where the units are closed each of them has a place
+-- if the units are closed, each of these has a place
 abbrev pub ClosedImagesHaveNoDefault : Type 0
 ClosedImagesHaveNoDefault =
     (main : LinkSymbol) (us : List UnitObject) → AreClosed main us → (x : LinkSymbol) → IsLookedUp main us x

@@ -1,4 +1,4 @@
--- The image of units: the sums of what their objects hold, where these begin, and the linked code.
+-- The image of units: the sums of what their objects hold, the places at which these begin, and the linked code.
 use Rattle.std.specs.Prelude.{ℕ, ◌+◌, List, [], ◌∷◌, ◌++◌, map, Some, if◌then◌else◌}
 use Rattle.std.specs.List.{flat_map}
 use Rattle.al_view.specs.declared.link.LinkSymbol.{LinkSymbol}
@@ -19,18 +19,18 @@ use Rattle.al_link.specs.Symbols.{Places, place_in}
 use Rattle.al_link.specs.Units.{UnitObject, Located, located, is_item, first_bases, totals, AreWithin}
 use Rattle.al_link.specs.Linking.{places_of, linked}
 
--- where the code of a unit begins
+-- the place at which the code of a unit begins
 abbrev pub object_of : Located → ImageObject
 object_of l = record { kind = l.key.kind; name = l.key.name; place = l.before.code }
 
--- a protected object's words lie among those of its unit
+-- a protected object's words are among those of its unit
 abbrev pub region_at : ℕ → ObjectRegion → Region
 region_at base r = record { address = base + r.word; words = r.words; ceiling = r.ceiling }
 
 abbrev pub regions_of : Located → List Region
 regions_of l = map (region_at l.before.words) l.object.protected
 
--- the lines of a unit's code, which begins where all before it ends
+-- the lines of a unit's code, which begins at the end of all code before it
 abbrev pub lines_of : Located → List LineEntry
 lines_of l = shifted l.before.code l.object.lines
 
@@ -66,7 +66,7 @@ image_with main us ls = record {
 abbrev pub image_of : LinkSymbol → List UnitObject → Image
 image_of main us = image_with main us (located (first_bases us) us)
 
--- why there is no image: a limit is passed, or memory was wanted
+-- why there is no image: a limit is passed, or the allocator refuses memory
 abbrev pub IsLinkFault : List UnitObject → LinkFault → Type 0
 IsLinkFault us faults.TooLarge = AreWithin us → ⊥
 IsLinkFault us faults.Damaged = ⊥

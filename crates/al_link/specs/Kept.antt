@@ -1,4 +1,4 @@
--- What a linked image keeps of its units, and of what it is made.
+-- What a linked image keeps of its units, and its parts.
 use Rattle.std.specs.Prelude.{ℕ, ◌≡◌, ◌≤◌, ◌+◌, ◌*◌, List, length, map, All}
 use Rattle.std.specs.List.{flat_map}
 use Rattle.al_view.specs.declared.link.LinkSymbol.{LinkSymbol}
@@ -29,14 +29,14 @@ kept_model k = record {
   };
 }
 
--- the units with what stands before each
+-- the units with what precedes each
 abbrev pub all_located : List UnitObject → List Located
 all_located us = located (first_bases us) us
 
 abbrev pub starting_of : LinkSymbol → List UnitObject → List ℕ
 starting_of main us = starting (places_of (all_located us)) main (all_located us)
 
--- all that an image of these units is made of, but for the units' code
+-- all that an image of these units is made of, except the units' code
 pub record IsPrepared (main : LinkSymbol) (us : List UnitObject) (p : Prepared) : Type 0 where
   pub within : AreWithin us
   pub totals_are : p.totals ≡ totals us
@@ -53,7 +53,7 @@ pub record IsPrepared (main : LinkSymbol) (us : List UnitObject) (p : Prepared) 
   pub lines_fit : AreLines p.totals.code p.lines.items
   pub size : length p.start.items + code_size us ≡ p.totals.code
 
--- how many bytes an image has that is made of it
+-- the number of bytes of an image made of these parts
 abbrev pub prepared_size : Prepared → ℕ
 prepared_size p = 30 + 12 * length p.protected.items + length (flat_map object_bytes p.objects.items) + p.totals.code + 8 * length p.lines.items
 

@@ -1,4 +1,4 @@
--- What linking makes of the instructions of an object.
+-- The instructions of an object after linking.
 use Rattle.std.specs.Prelude.{ℕ, ◌≡◌, ◌+◌, ◌%◌, ◌^◌, List, ◌++◌, length, map, All}
 use Rattle.al_instr.specs.declared.instruction.Instr.{Instr}
 use Rattle.al_instr.specs.declared.instruction.Instr.TheVariants as instr
@@ -6,7 +6,7 @@ use Rattle.al_code_object.specs.Parts.{Part, Whole, Using, code_of, uses_from, I
 use Rattle.al_link.specs.Symbols.{Places, place_in}
 use Rattle.al_link.specs.Linking.{patched}
 
--- the instruction whose first operand counts from so many bytes, words or objects
+-- the instruction with its first operand counted from so many bytes, words or objects
 abbrev pub shifted : ℕ → Instr → Instr
 shifted v (instr.Global place) = instr.Global ((place + v) % 2 ^ 32)
 shifted v (instr.Call place words) = instr.Call ((place + v) % 2 ^ 32) words
@@ -19,7 +19,7 @@ abbrev pub linked_part : Places → Part → Part
 linked_part places (Whole i) = Whole i
 linked_part places (Using i symbol) = Whole (shifted (place_in places symbol) i)
 
--- filling in the operands of instructions, anywhere in an image, gives the bytes of the linked ones, and changes nothing else
+-- filling in the operands of instructions, anywhere in an image, gives the bytes of the linked ones; nothing else changes
 abbrev pub LinksParts : Type 0
 LinksParts =
     (places : Places) (before after : List ℕ) (ps : List Part) → All IsPart ps

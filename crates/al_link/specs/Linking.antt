@@ -1,4 +1,4 @@
--- Where the symbols of objects stand, and the linked code.
+-- The places of the symbols of objects, and the linked code.
 use Rattle.std.specs.Prelude.{ℕ, ◌+◌, ◌%◌, ◌^◌, nat_le, if◌then◌else◌, List, [], ◌∷◌, ◌++◌, length, take, drop, fold}
 use Rattle.std.specs.Int.{w32, from_be_bytes}
 use Rattle.al_instr.specs.Codes.{word_bytes}
@@ -9,9 +9,9 @@ use Rattle.al_link.specs.Bases.{base_of}
 use Rattle.al_link.specs.Symbols.{Places, place_in, with_place}
 use Rattle.al_link.specs.Units.{Located}
 
--- ---- where symbols stand
+-- ---- the places of symbols
 
--- a symbol stands at the sum of what is before its object and its own offset
+-- a symbol's place is the sum of what precedes its object and its own offset
 abbrev pub with_address : Bases → Places → Address → Places
 with_address b places d = with_place places d.symbol (base_of b d.symbol.kind + d.offset)
 
@@ -28,12 +28,12 @@ places_of ls = fold with_defines [] ls
 unfoldable pub number_at : List ℕ → ℕ → ℕ
 number_at code place = if nat_le (place + 4) (length code) then from_be_bytes w32 (take 4 (drop place code)) else 0
 
--- another number there
+-- the bytes with another number there
 unfoldable pub with_word : List ℕ → ℕ → ℕ → List ℕ
 with_word code place n = if nat_le (place + 4) (length code) then take place code ++ (word_bytes n ++ drop (place + 4) code) else code
 
--- each operand counts from where its symbol stands. What it counts is read in the object and never in the image, so an image
--- that was linked before is linked again just so
+-- each operand counts from the place of its symbol. The offset is read in the object and never in the image, so linking an image again gives the
+-- same code
 abbrev pub patched : Places → List ℕ → ℕ → List ℕ → List Relocation → List ℕ
 patched places from base code [] = code
 patched places from base code (u ∷ us) =
@@ -41,7 +41,7 @@ patched places from base code (u ∷ us) =
 
 -- ---- code
 
--- an object after the code that stands already
+-- an object after the code so far
 abbrev pub with_object : Places → List ℕ → Located → List ℕ
 with_object places code l = patched places l.object.code (length code) (code ++ l.object.code) l.object.uses
 

@@ -1,4 +1,4 @@
--- What compilations left, and whether it can be linked.
+-- The results of compilations, and whether they can be linked.
 use Rattle.std.specs.Prelude.{◌≡◌, Bool, true, false, List, [], ◌∷◌}
 use Rattle.std.specs.List.{flat_map, list_any}
 use Rattle.al_base.specs.declared.unit_key.UnitKey.{UnitKey}
@@ -17,7 +17,7 @@ is_large (left.Compiled o) = false
 abbrev pub some_large : List CompiledUnit → Bool
 some_large us = list_any (λ u. is_large u.object.now) us
 
--- a unit with its object, where it has one
+-- a unit with its object, if it has one
 abbrev pub with_object : UnitKey → Object → List UnitObject
 with_object key left.Large = []
 with_object key (left.Compiled o) = record { key = key; object = o } ∷ []

@@ -15,13 +15,13 @@ use Rattle.al_link.specs.Symbols.{Places}
 use Rattle.al_link.specs.Units.{UnitObject}
 use Rattle.al_link.specs.declared.linking.CompiledUnit.{CompiledUnit}
 
--- an image that may be linked again: its main subprogram, its units, and how many of these the last call wrote anew
+-- an image that may be linked again: its main subprogram, its units, and the number of units whose code the last call wrote
 pub record LinkedImage : Type 0 where
   pub main : LinkSymbol
   pub units : List UnitObject
   pub patched : ℕ
 
--- a unit by its lengths, counts, symbols and lines
+-- the lengths, counts, symbols and lines of a unit
 pub record Shape : Type 0 where
   pub key : UnitKey
   pub size : ℕ
@@ -54,12 +54,12 @@ shapes_left us = map (λ u. left_shape u.key.now u.object.now) us
 abbrev pub shapes_kept : List UnitObject → List (Option Shape)
 shapes_kept us = map (λ u. Some (shape_of u)) us
 
--- the main subprogram and the units are as before by their lengths, counts, symbols and lines: bytes of code and ceilings may differ
+-- the main subprogram and the units are as before in their lengths, counts, symbols and lines; bytes of code and ceilings may differ
 pub record AreAsBefore (l : LinkedImage) (main : LinkSymbol) (us : List CompiledUnit) : Type 0 where
   pub main_is : main ≡ l.main
   pub shapes_are : shapes_left us ≡ shapes_kept l.units
 
--- how many units have other code
+-- the number of units whose code differs
 abbrev pub differs : UnitObject → UnitObject → ℕ
 differs a b = if bytes_eq a.object.code b.object.code then 0 else 1
 
@@ -70,7 +70,7 @@ differing (k ∷ ks) (u ∷ us) = differs k u + differing ks us
 
 -- ---- protected objects
 
--- their words, where so many words stand before those of the units
+-- the words of the units' protected objects, with so many words before those of the units
 abbrev pub regions_from : ℕ → List UnitObject → List ImageRegion
 regions_from words [] = []
 regions_from words (u ∷ us) = map (region_at words) u.object.protected ++ regions_from (words + u.object.data_words) us
@@ -86,29 +86,29 @@ words_size us = sum_by (λ u. u.object.data_words) us
 abbrev pub code_size : List UnitObject → ℕ
 code_size us = sum_by (λ u. length u.object.code) us
 
--- a unit's code after the code that stands already
+-- a unit's code after the code so far
 abbrev pub with_unit : Places → List ℕ → UnitObject → List ℕ
 with_unit places code u = patched places u.object.code (length code) (code ++ u.object.code) u.object.uses
 
 abbrev pub linked_units : Places → List ℕ → List UnitObject → List ℕ
 linked_units places start us = fold (with_unit places) start us
 
--- ---- one unit's object alone
+-- ---- one unit's object
 
--- a unit's code wherever it stands: its operands are filled in within it
+-- a unit's code, wherever it is: its operands are filled in within it
 abbrev pub piece : Places → UnitObject → List ℕ
 piece places u = patched places u.object.code 0 u.object.code u.object.uses
 
--- bytes with others at a place
+-- bytes with some replaced from a place on
 abbrev pub with_bytes : List ℕ → ℕ → List ℕ → List ℕ
 with_bytes code place bytes = take place code ++ (bytes ++ drop (place + length bytes) code)
 
--- a unit is as the one at a place by its lengths, counts, symbols, lines and protected objects
+-- a unit is as the one at a place in its lengths, counts, symbols, lines and protected objects
 pub record IsInPlace (us : List UnitObject) (at : ℕ) (u : UnitObject) : Type 0 where
   pub within : at < length us
   pub shape_is : shape_of u ≡ shape_of (slice_index_or us at u)
   pub regions_are : u.object.protected ≡ (slice_index_or us at u).object.protected
 
--- the image with this unit there
+-- the image with this unit at that place
 abbrev pub exchanged : LinkedImage → ℕ → UnitObject → LinkedImage
 exchanged l at u = record { main = l.main; units = slice_set l.units at u; patched = differs (slice_index_or l.units at u) u }

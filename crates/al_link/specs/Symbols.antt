@@ -1,4 +1,4 @@
--- When two symbols are one for the linker, and where symbols stand.
+-- When two symbols are one for the linker, and the places of symbols.
 use Rattle.std.specs.Prelude.{ℕ, Bool, true, false, ◌&&◌, List, [], ◌∷◌, if◌then◌else◌, unwrap_or}
 use Rattle.std.specs.Map.{lookup}
 use Rattle.al_view.specs.Symbols.{same_symbol}
@@ -27,6 +27,6 @@ abbrev pub with_place : Places → LinkSymbol → ℕ → Places
 with_place [] symbol place = (symbol, place) ∷ []
 with_place (e ∷ es) symbol place = if same_link_symbol symbol e.0 then (e.0, place) ∷ es else e ∷ with_place es symbol place
 
--- where a symbol stands
+-- the place of a symbol
 abbrev pub place_in : Places → LinkSymbol → ℕ
 place_in places symbol = unwrap_or (lookup (same_link_symbol symbol) places) 0

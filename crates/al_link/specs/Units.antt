@@ -1,4 +1,4 @@
--- What the linker takes: units with their objects, in the order in which they stand in the image.
+-- The linker's input: units with their objects, in the order of the image.
 use Rattle.std.specs.Prelude.{ℕ, ◌+◌, ◌≤◌, Bool, true, false, if◌then◌else◌, List, [], ◌∷◌, length, sum_by}
 use Rattle.al_base.specs.declared.unit_key.UnitKey.{UnitKey}
 use Rattle.al_base.specs.declared.unit_key.UnitKind.{UnitKind}
@@ -13,7 +13,7 @@ pub record UnitObject : Type 0 where
   pub key : UnitKey
   pub object : CompiledCode
 
--- a unit, and what stands before its object
+-- a unit, and what precedes its object
 pub record Located : Type 0 where
   pub key : UnitKey
   pub object : CompiledCode
@@ -45,11 +45,11 @@ is_item Sub = false
 abbrev pub call_size : UnitObject → ℕ
 call_size u = if is_item u.key.kind then 10 else 0
 
--- .. and makes the tasks ready, calls the main subprogram and ends, in twelve
+-- the starting code then makes the tasks ready, calls the main subprogram and ends, in twelve bytes
 abbrev pub start_size : List UnitObject → ℕ
 start_size us = sum_by call_size us + 12
 
--- what stands before the first object
+-- what precedes the first object
 abbrev pub first_bases : List UnitObject → Bases
 first_bases us = record { code = start_size us; words = 0; objects = 0; tasks = 0 }
 

@@ -1,4 +1,4 @@
-// How much stands before an object.
+// What precedes an object in an image.
 ghost use Rattle.std.specs.Prelude.{◌≡◌, ◌+◌, ◌≤◌, ◌<◌, length, MatchOption};
 ghost use Rattle.al_link.specs.Bases.{AreSmall, base_of, next_bases};
 
@@ -6,7 +6,7 @@ use al_code_object::Compiled;
 use al_link_image::{MAX_CODE, MAX_DATA_WORDS, MAX_PROTECTED, MAX_TASKS};
 use al_view::LinkKind;
 
-/// How many bytes of code, data words, protected objects and tasks stand before an object.
+/// How many bytes of code, data words, protected objects and tasks precede an object.
 #[derive(Clone, Copy)]
 pub(crate) struct Bases {
     pub(crate) code: u32,
@@ -15,7 +15,7 @@ pub(crate) struct Bases {
     pub(crate) tasks: u32,
 }
 
-// The sum, unless it passes the limit.
+// The sum, if it is within the limit.
 fn sum_within(sum: u32, more: usize, limit: u32) -> Option<u32>
     requires { sum ≤ limit }
     ensures { MatchOption result (limit < sum + more) (λ s. (s ≡ sum + more) × (s ≤ limit)) }
@@ -26,7 +26,7 @@ fn sum_within(sum: u32, more: usize, limit: u32) -> Option<u32>
     Some(sum + more as u32)
 }
 
-// What stands before the next object, unless it passes a limit of images.
+// What precedes the next object, if that is within the limits of images.
 pub(crate) fn next_bases(bases: Bases, object: &Compiled) -> Option<Bases>
     requires { AreSmall bases }
     ensures { MatchOption result (AreSmall (next_bases bases object.now) → ⊥) (λ next. (next ≡ next_bases bases object.now) × AreSmall next) }
@@ -43,7 +43,7 @@ pub(crate) fn next_bases(bases: Bases, object: &Compiled) -> Option<Bases>
     })
 }
 
-// From where a symbol of this kind counts.
+// The base from which symbols of this kind are counted.
 pub(crate) fn base_of(bases: Bases, kind: LinkKind) -> u32
     ensures { result ≡ base_of bases kind }
 {

@@ -1,4 +1,4 @@
-// A unit's object that is put in the place of another one.
+// How the object of a unit replaces another one.
 ghost use Rattle.std.specs.Prelude.{◌≡◌, ◌↔◌, ◌+◌, ◌≤◌, IsTrue, length, option_map};
 ghost use Rattle.al_link_image.specs.Images.{image_bytes};
 ghost use Rattle.al_link_image.specs.Parts.{IsWhole, image_of};
@@ -16,7 +16,7 @@ use al_code_object::Compiled;
 use al_link_image::ImageParts;
 use al_view::{Same, are_same};
 
-/// Whether a unit is as before but for the bytes of its code.
+/// Whether a unit is as before, except for the bytes of its code.
 pub(crate) fn is_in_place(kept: &KeptUnit, unit: &LinkUnit<'_>) -> bool
     ensures { IsTrue result ↔ (shape_of (unit_model unit.now) ≡ shape_of (kept_model kept.now)) × (unit.now.object.now.protected ≡ kept.now.protected.items) }
 {
@@ -25,7 +25,7 @@ pub(crate) fn is_in_place(kept: &KeptUnit, unit: &LinkUnit<'_>) -> bool
         && are_same(kept.protected.as_slice(), unit.object.protected())
 }
 
-/// Where the code of an image begins among its bytes, of which there are so many.
+/// The place at which the code of an image begins among its `size` bytes.
 pub(crate) fn code_place(parts: &ImageParts, size: usize) -> usize
     requires whole { IsWhole parts.now }
     requires size { size ≡ length (image_bytes (image_of parts.now)) }
@@ -47,7 +47,7 @@ fn write_piece(code: &mut [u8], object: &Compiled, places: &Places)
     patch(code, 0, object.code(), object.uses(), places);
 }
 
-/// Writes an object's code over what stands at a place in code, and in bytes in which that code begins there.
+/// Writes an object's code over what is at a place in the code, and in bytes in which the code begins at another place.
 pub(crate) fn write_over(
     code: &mut [u8],
     bytes: &mut [u8],

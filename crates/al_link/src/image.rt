@@ -14,7 +14,7 @@ use al_instr::{LineEntry, push_shifted};
 use al_link_image::{ImageObject, Region};
 use std::alloc::Global;
 
-// Where the code of a unit begins.
+// The place at which the code of a unit begins.
 fn object_of(alloc: Global, unit: &Located<'_>) -> Result<ImageObject, NoMemory>
     requires name { IsUnitName unit.now.key.now.name }
     requires place { AreSmall (next_bases unit.now.before unit.now.object.now) }
@@ -29,7 +29,7 @@ fn object_of(alloc: Global, unit: &Located<'_>) -> Result<ImageObject, NoMemory>
     })
 }
 
-// Where the code of each unit begins.
+// The place at which the code of each unit begins.
 pub(crate) fn objects_of(alloc: Global, units: &[Located<'_>]) -> Result<Vec<ImageObject>, NoMemory>
     requires names { All (λ l. IsUnitName l.key.now.name) units.now }
     requires places { All (λ l. AreSmall (next_bases l.before l.object.now)) units.now }
@@ -44,7 +44,7 @@ pub(crate) fn objects_of(alloc: Global, units: &[Located<'_>]) -> Result<Vec<Ima
     Ok(objects)
 }
 
-// The words of a protected object, which are among so many.
+// The words of a protected object, which are among `total` words.
 pub(crate) fn region_at(base: u32, region: CompiledRegion, total: u32) -> Region
     requires { base + region.word + region.words ≤ total }
     ensures value { result ≡ region_at base region }
@@ -57,7 +57,7 @@ pub(crate) fn region_at(base: u32, region: CompiledRegion, total: u32) -> Region
     }
 }
 
-// The words of a unit's protected objects, which are among so many.
+// Appends the words of a unit's protected objects, which are among `total` words.
 fn push_regions(regions: &mut Vec<Region>, unit: &Located<'_>, total: u32) -> Result<(), NoMemory>
     requires words { unit.now.before.words + unit.now.object.now.data_words ≤ total }
     requires fit { All (IsRegion total) regions.old.items }
@@ -72,7 +72,7 @@ fn push_regions(regions: &mut Vec<Region>, unit: &Located<'_>, total: u32) -> Re
     Ok(())
 }
 
-// The words of all protected objects, which are among so many.
+// The words of all protected objects, which are among `total` words.
 pub(crate) fn regions_of(
     alloc: Global,
     units: &[Located<'_>],

@@ -38,7 +38,7 @@ impl Drop for KeptUnit {
     }
 }
 
-// The same symbol once more.
+// A copy of a symbol.
 pub(crate) fn copied_symbol(alloc: Global, symbol: &LinkSymbol) -> Result<LinkSymbol, NoMemory>
     ensures { IfOk result (λ copy. copy ≡ symbol.now) }
 {
@@ -75,7 +75,7 @@ fn copied_defines(alloc: Global, defines: &[Address]) -> Result<Vec<Address>, No
     Ok(copy)
 }
 
-// What is kept of a unit, whose symbols were copied.
+// What is kept of a unit whose symbols were copied.
 fn kept_with(
     alloc: Global,
     key: &UnitKey,
@@ -121,7 +121,7 @@ pub(crate) fn all_kept(alloc: Global, units: &[CompiledUnit<'_>]) -> Result<Vec<
     Ok(kept)
 }
 
-// Whether an object is as before by its lengths, counts, symbols and lines.
+// Whether an object is as before in its lengths, counts, symbols and lines.
 pub(crate) fn is_same_object(kept: &KeptUnit, object: &Compiled) -> bool
     ensures { IsTrue result ↔ (shape_of (record { key = kept.now.key; object = object.now }) ≡ shape_of (kept_model kept.now)) }
 {
@@ -134,7 +134,7 @@ pub(crate) fn is_same_object(kept: &KeptUnit, object: &Compiled) -> bool
         && are_same_lines(kept.lines.as_slice(), object.lines())
 }
 
-// Whether a unit is.
+// Whether a unit has the same key as before, and its object is as before in its lengths, counts, symbols and lines.
 fn is_same_unit(kept: &KeptUnit, unit: &CompiledUnit<'_>) -> bool
     ensures { IsTrue result ↔ (left_shape unit.now.key.now unit.now.object.now ≡ Some (shape_of (kept_model kept.now))) }
 {
@@ -144,7 +144,7 @@ fn is_same_unit(kept: &KeptUnit, unit: &CompiledUnit<'_>) -> bool
     }
 }
 
-// Whether all units are.
+// Whether all units have the same keys as before, and their objects are as before in their lengths, counts, symbols and lines.
 pub(crate) fn are_same_units(kept: &[KeptUnit], units: &[CompiledUnit<'_>]) -> bool
     ensures { IsTrue result ↔ (shapes_left units.now ≡ shapes_kept (map kept_model kept.now)) }
 {
@@ -159,7 +159,7 @@ pub(crate) fn are_same_units(kept: &[KeptUnit], units: &[CompiledUnit<'_>]) -> b
     true
 }
 
-// Keeps an object that is as before but for the bytes of its code: 1 where these differed, else 0.
+// Keeps the code of an object that is as before except for that. Gives 1 if the code differed, else 0.
 pub(crate) fn keep_code(kept: &mut KeptUnit, object: &Compiled) -> usize
     requires { shape_of (record { key = kept.old.key; object = object.now }) ≡ shape_of (kept_model kept.old) }
     ensures kept { kept_model kept.new ≡ record { key = kept.old.key; object = object.now } }
@@ -174,7 +174,7 @@ pub(crate) fn keep_code(kept: &mut KeptUnit, object: &Compiled) -> usize
     1
 }
 
-// The same of a unit.
+// Keeps the code of a unit that is as before except for that. Gives 1 if the code differed, else 0.
 fn keep_one(kept: &mut KeptUnit, unit: &CompiledUnit<'_>) -> usize
     requires { left_shape unit.now.key.now unit.now.object.now ≡ Some (shape_of (kept_model kept.old)) }
     ensures kept { with_object unit.now.key.now unit.now.object.now ≡ kept_model kept.new ∷ [] }
@@ -187,7 +187,7 @@ fn keep_one(kept: &mut KeptUnit, unit: &CompiledUnit<'_>) -> usize
     }
 }
 
-// Keeps the code of units that are as before but for that, and counts those whose code differed.
+// Keeps the code of units that are as before except for that. Gives the number of units whose code differed.
 pub(crate) fn keep_all(kept: &mut [KeptUnit], units: &[CompiledUnit<'_>]) -> usize
     requires { shapes_left units.now ≡ shapes_kept (map kept_model kept.old) }
     ensures kept { map kept_model kept.new ≡ compiled_units units.now }

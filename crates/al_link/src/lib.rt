@@ -1,5 +1,11 @@
-//! The linker: the image of a partition, with the objects of its units one after the other and the places of their symbols filled
-//! in. Where its units are closed none of them is looked up in vain.
+//! The linker: the image of a partition has the objects of its units one after the other, with the places of their symbols filled in. If the units
+//! are closed (they define all that they use), each look-up finds its symbol.
+//!
+//! - `linking` and `units` are the linker's input: units with their objects. `bases` says what precedes each object, `places` where each symbol is,
+//!   `patch` fills in operands.
+//! - `start` is the starting code, which elaborates the items and calls the main subprogram. `image`, `prepared` and `sizes` put an image together.
+//! - `linked` is an image that can be linked again in its place: `kept` is what it keeps of its units, and `exchanging`, `writing` and `refilling`
+//!   replace code and words in it.
 #![tactic(auto)]
 
 mod bases;

@@ -1,4 +1,4 @@
-// An image that may be linked again in its place.
+// An image that can be linked again in its place.
 ghost use Rattle.std.specs.Prelude.{◌≡◌, ◌≤◌, ◌↔◌, false, IsTrue, IsOk, length, map, vec_capacity, IfOk, IfErr, OnOk, OnErr};
 ghost use Rattle.std.specs.List.{All};
 ghost use Rattle.al_link_image.specs.Images.{IsUnitName, image_bytes};
@@ -26,7 +26,7 @@ use al_view::LinkSymbol;
 use std::alloc::Global;
 use std::marker::Model;
 
-/// An image with all that was linked, which is linked again in its place.
+/// An image with all that was linked, which can be linked again in its place.
 #[derive(Drop)]
 pub struct Linked {
     alloc: Global,
@@ -52,7 +52,7 @@ impl Model for Linked {
     ghost invariant = { λ l. IsLinked l.main (map kept_model l.kept.items) l.image l.places l.start.items × (l.bytes.items ≡ image_bytes l.image) };
 }
 
-// What is linked.
+// What a link gives: the image, its bytes, and what is kept of its units.
 #[derive(Drop)]
 struct Fresh {
     main: LinkSymbol,
@@ -60,7 +60,7 @@ struct Fresh {
     prepared: Prepared,
 }
 
-// All that an image of these units is made of but for their code.
+// All that an image of these units is made of, except their code.
 fn collect(alloc: Global, main: &LinkSymbol, units: &[CompiledUnit<'_>]) -> Result<Fresh, LinkFault>
     requires { All (λ u. IsUnitName u.key.now.name) units.now }
     ensures main { IfOk result (λ f. f.main ≡ main.now) }
@@ -80,8 +80,7 @@ fn collect(alloc: Global, main: &LinkSymbol, units: &[CompiledUnit<'_>]) -> Resu
     })
 }
 
-// The image of units whose code is written over this code, which is as long as theirs, and its bytes in the place of these, where
-// there is room for them.
+// The image of units whose code is written over `code`, which is as long as theirs. Its bytes replace `bytes` if there is room for them.
 fn make(
     alloc: Global,
     fresh: Fresh,
@@ -133,7 +132,7 @@ fn make(
     }
 }
 
-// What an image is made of. It takes no memory.
+// The parts of an image, taken from it. It takes no memory.
 fn taken(alloc: Global, image: &mut Image) -> ImageParts
     ensures value { image.old ≡ image_of_parts result }
     ensures whole { IsWhole result }
@@ -143,11 +142,12 @@ fn taken(alloc: Global, image: &mut Image) -> ImageParts
 }
 
 impl Linked {
-    /// The image of a partition's units, which define the main subprogram's code and all that they use, as `link` makes it.
+    /// The image of a partition's units, as `link` makes it. The units define the main subprogram's code and all that they use.
     ///
     /// # Errors
     ///
-    /// `TooLarge` where the code of a unit is longer than that of any image or a limit of images is passed, and only there.
+    /// `TooLarge` if the code of a unit is longer than that of any image, or a limit of images is passed, and only then; else `NoMemory` if the
+    /// allocator refuses memory.
     pub fn new(
         alloc: Global,
         main: &LinkSymbol,
@@ -180,7 +180,7 @@ impl Linked {
         self.bytes.as_slice()
     }
 
-    /// The image alone.
+    /// The image, without what is kept of its units.
     pub fn into_image(self) -> Image
         ensures { result ≡ image_of self.main self.units }
     {
@@ -197,22 +197,22 @@ impl Linked {
         image
     }
 
-    /// Of how many units the last call of `relink`, or of `exchange` where that was done, wrote other code: where lengths, counts and
-    /// symbols were as before, the number of units whose code differed, else of all. 0 after `new`.
+    /// The number of units whose code was written by the last call of `relink`, or of `exchange` that gave true. If lengths, counts and symbols were
+    /// as before, these are the units whose code differed, else all. 0 after `new`.
     pub fn patched(&self) -> usize
         ensures { result ≡ self.now.patched }
     {
         self.count
     }
 
-    // Whether the main subprogram and the units are as before, but for the bytes of their code.
+    // Whether the main subprogram and the units are as before, except for the bytes of the units' code.
     fn is_as_before(&self, main: &LinkSymbol, units: &[CompiledUnit<'_>]) -> bool
         ensures { IsTrue result ↔ AreAsBefore self.now main.now units.now }
     {
         is_same_symbol(main, &self.main) && are_same_units(&self.kept, units)
     }
 
-    // The same units with other bytes of code. It takes no memory.
+    // Writes other bytes of code for units that are as before except for that. It takes no memory.
     fn write_again(&mut self, units: &[CompiledUnit<'_>])
         requires { shapes_left units.now ≡ shapes_kept self.old.units }
         ensures linked { self.new ≡ record { main = self.old.main; units = compiled_units units.now; patched = differing self.old.units (compiled_units units.now) } }
@@ -226,7 +226,7 @@ impl Linked {
         self.count = keep_all(&mut self.kept, units);
     }
 
-    // A unit's other object in the place of the one before. It takes no memory.
+    // Writes another object of a unit in the place of the one before. It takes no memory.
     fn write_one(&mut self, at: usize, unit: &LinkUnit<'_>)
         requires { IsInPlace self.old.units at (unit_model unit.now) }
         ensures linked { self.new ≡ exchanged self.old at (unit_model unit.now) }
@@ -248,7 +248,7 @@ impl Linked {
         self.count = keep_code(&mut self.kept[at], unit.object);
     }
 
-    // Other units.
+    // Links other units.
     fn write_anew(&mut self, main: &LinkSymbol, units: &[CompiledUnit<'_>]) -> Result<(), LinkFault>
         requires { All (λ u. IsUnitName u.key.now.name) units.now }
         ensures linked { OnOk result (self.new ≡ record { main = main.now; units = compiled_units units.now; patched = length units.now }) }
@@ -275,12 +275,12 @@ impl Linked {
         Ok(())
     }
 
-    /// Links a partition's units, closed as those of `new`, in the place of those before. Where the main subprogram and all lengths, counts and
-    /// symbols are as before it takes no memory.
+    /// Links a partition's units, which are closed as for `new`, in the place of those before. If the main subprogram and all lengths, counts and
+    /// symbols are as before, it takes no memory.
     ///
     /// # Errors
     ///
-    /// Those of `new`; the image is then as before.
+    /// As for `new`; the image is then as before.
     pub fn relink(&mut self, main: &LinkSymbol, units: &[CompiledUnit<'_>]) -> Result<(), LinkFault>
         requires named { All (λ u. IsUnitName u.key.now.name) units.now }
         requires closed { AreClosedUnits main.now units.now }
@@ -300,9 +300,9 @@ impl Linked {
         self.write_anew(main, units)
     }
 
-    /// Links the object of one unit in the place of the one before. It is so where the main subprogram is the same, the unit at that place
-    /// has this key, and its object is as before by its lengths, counts, symbols, lines and protected objects: then its code alone is
-    /// written, in the image and in its bytes, and no other unit is looked at. Whether it was so; else nothing is done. It takes no memory.
+    /// Links the object of one unit in the place of the one before, if that is possible: the main subprogram is the same, the unit at that place has
+    /// this key, and its object is as before in its lengths, counts, symbols, lines and protected objects. Then only its code is written, in the
+    /// image and in its bytes, and no other unit is looked at. Gives whether it was possible; if not, nothing is done. It takes no memory.
     pub fn exchange(
         &mut self,
         main: &LinkSymbol,
@@ -327,12 +327,13 @@ impl Linked {
     }
 }
 
-/// The image of a partition's units in the order in which they stand in it: the items in the order of their elaboration, a body's
-/// subunits after it. `main` is the symbol of the main subprogram's code. The units define it, and all that they use.
+/// The image of a partition's units, in this order: the items in the order of their elaboration, a body's subunits after it. `main` is the symbol of
+/// the main subprogram's code. The units define it, and all that they use.
 ///
 /// # Errors
 ///
-/// `TooLarge` where the code of a unit is longer than that of any image or a limit of images is passed, and only there.
+/// `TooLarge` if the code of a unit is longer than that of any image, or a limit of images is passed, and only then; else `NoMemory` if the
+/// allocator refuses memory.
 pub fn link(
     alloc: Global,
     main: &LinkSymbol,

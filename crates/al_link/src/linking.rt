@@ -1,4 +1,4 @@
-// The units of a partition with what their compilations left.
+// The units of a partition, with the results of their compilations.
 ghost use Rattle.std.specs.Prelude.{◌≡◌, false, map, IfOk, IfErr, OnOk};
 ghost use Rattle.std.specs.List.{All};
 ghost use Rattle.al_link_image.specs.Images.{IsUnitName};
@@ -11,14 +11,16 @@ use al_code_object::Object;
 use al_link_image::LinkFault;
 use std::alloc::Global;
 
-/// A unit with what its compilation left.
+/// A unit with the result of its compilation.
 #[derive(Clone, Copy)]
 pub struct CompiledUnit<'a> {
+    /// The unit.
     pub key: &'a UnitKey,
+    /// The result of its compilation.
     pub object: &'a Object,
 }
 
-// The units with their objects, where each of them has one.
+// The units with their objects, if each of them has one.
 pub(crate) fn compiled<'a>(
     alloc: Global,
     units: &[CompiledUnit<'a>],

@@ -1,4 +1,4 @@
-// The operands that the linker fills in.
+// Filling in the operands that depend on the places of symbols.
 ghost use Rattle.std.specs.Prelude.{◌≡◌, ◌≤◌};
 ghost use Rattle.al_link.specs.Linking.{number_at, patched, with_word};
 
@@ -17,7 +17,7 @@ fn number_at(code: &[u8], place: usize) -> u32
     0
 }
 
-// Another number there.
+// Writes a number into the four bytes at a place.
 #[tactic(auto, unfolding(crate::specs::Linking::with_word))]
 fn write_word(code: &mut [u8], place: usize, number: u32)
     ensures { code.new ≡ with_word code.old place number }

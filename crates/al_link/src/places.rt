@@ -1,4 +1,4 @@
-// Where symbols stand.
+// The places of symbols.
 ghost use Rattle.std.specs.Prelude.{◌≡◌, ◌+◌, ◌^◌, ◌<◌, [], map, IfOk, OnOk, fold};
 ghost use Rattle.std.specs.List.{All};
 ghost use Rattle.al_link.specs.Bases.{AreSmall, base_of, next_bases};
@@ -15,8 +15,8 @@ use indexmap::IndexMap;
 use std::alloc::Global;
 use std::marker::Model;
 
-/// Where symbols stand: code in bytes of the image's code, words among all data words, protected objects by their numbers. A
-/// symbol is found without a walk.
+/// The places of symbols: of code, in bytes of the image's code; of words, among all data words; of protected objects, by their numbers. A symbol is
+/// found by hashing.
 pub(crate) struct Places {
     alloc: Global,
     by_symbol: IndexMap<LinkSymbol, u32>,
@@ -49,7 +49,7 @@ impl Places {
         }
     }
 
-    // One more symbol.
+    // Adds a symbol.
     fn add(&mut self, bases: Bases, define: &Address) -> Result<(), NoMemory>
         requires { base_of bases define.now.symbol.kind + define.now.offset < 2 ^ 32 }
         ensures { OnOk result (self.new ≡ with_address bases self.old define.now) }
@@ -63,7 +63,7 @@ impl Places {
         Ok(())
     }
 
-    // The symbols of an object.
+    // Adds the symbols of an object.
     fn add_all(&mut self, bases: Bases, object: &Compiled) -> Result<(), NoMemory>
         requires { AreSmall (next_bases bases object.now) }
         ensures { OnOk result (self.new ≡ fold (with_address bases) self.old object.now.defines) }
@@ -87,7 +87,7 @@ impl Places {
         Ok(places)
     }
 
-    /// Where a symbol stands.
+    /// The place of a symbol.
     pub(crate) fn place_of(&self, symbol: &LinkSymbol) -> u32
         ensures { result ≡ place_in self.now symbol.now }
     {

@@ -1,4 +1,4 @@
-// All that an image of units is made of, but for the units' code.
+// All that an image of units is made of, except the units' code.
 ghost use Rattle.std.specs.Prelude.{◌≡◌, map, IfOk, IfErr, OnOk};
 ghost use Rattle.std.specs.List.{All};
 ghost use Rattle.al_link_image.specs.Images.{IsUnitName};
@@ -16,7 +16,7 @@ use al_link_image::{ImageObject, LinkFault, MAX_OBJECTS, Region};
 use al_view::LinkSymbol;
 use std::alloc::Global;
 
-/// All that an image of units is made of, but for the units' code.
+/// All that an image of units is made of, except the units' code.
 #[derive(Drop)]
 pub(crate) struct Prepared {
     pub(crate) totals: Bases,
@@ -27,7 +27,7 @@ pub(crate) struct Prepared {
     pub(crate) lines: Vec<LineEntry>,
 }
 
-/// What an image of units is made of, but for the units' code.
+/// Prepares all that an image of units is made of, except the units' code.
 pub(crate) fn prepare(
     alloc: Global,
     main: &LinkSymbol,

@@ -1,4 +1,4 @@
-// The words of protected objects that are written anew where others stood.
+// The words of protected objects, written in the place of others.
 ghost use Rattle.std.specs.Prelude.{◌≡◌, ◌+◌, ◌≤◌, ◌++◌, length, map, IsOk, OnOk, vec_capacity};
 ghost use Rattle.std.specs.List.{All};
 ghost use Rattle.al_link_image.specs.Images.{IsRegion};
@@ -12,7 +12,7 @@ use al_base::NoMemory;
 use al_code_object::{Compiled, Object};
 use al_link_image::Region;
 
-// Appends the words of an object's protected objects, which are among so many.
+// Appends the words of an object's protected objects, which are among `total` words.
 fn push_regions_at(
     regions: &mut Vec<Region>,
     words: u32,
@@ -34,7 +34,7 @@ fn push_regions_at(
     Ok(())
 }
 
-/// The words of the protected objects of units in place of others. It takes no memory where there were as many.
+/// Writes the words of the units' protected objects in the place of others. It takes no memory if there are as many as before.
 pub(crate) fn refill(
     regions: &mut Vec<Region>,
     units: &[CompiledUnit<'_>],

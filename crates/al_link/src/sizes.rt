@@ -1,4 +1,4 @@
-// How many bytes an image has.
+// The number of bytes of an image.
 ghost use Rattle.std.specs.Prelude.{◌≡◌, ◌+◌, ◌≤◌, length};
 ghost use Rattle.std.specs.List.{All, flat_map};
 ghost use Rattle.al_link_image.specs.Images.{IsObject, object_bytes};
@@ -7,7 +7,7 @@ ghost use Rattle.al_link.specs.Kept.{prepared_size};
 use crate::prepared::Prepared;
 use al_link_image::ImageObject;
 
-// The objects' bytes: a kind, a length, a name and a place each.
+// The bytes of the list of objects: a kind, a length, a name and a place for each.
 fn objects_size(objects: &[ImageObject]) -> usize
     requires count { length objects.now ≤ 65535 }
     requires names { All IsObject objects.now }
@@ -21,7 +21,7 @@ fn objects_size(objects: &[ImageObject]) -> usize
     size
 }
 
-/// The bytes of an image of which all but the units' code is prepared.
+/// The number of bytes of an image of which all except the units' code is prepared.
 pub(crate) fn image_size(prepared: &Prepared) -> usize
     requires regions { length prepared.now.protected.items ≤ 65535 }
     requires count { length prepared.now.objects.items ≤ 65535 }

@@ -1,4 +1,4 @@
-// What the linker takes.
+// The linker's input.
 ghost use Rattle.std.specs.Prelude.{◌≡◌, ◌+◌, ◌≤◌, length, map, sum_by, IfOk, IfErr};
 ghost use Rattle.std.specs.List.{All};
 ghost use Rattle.al_link.specs.Bases.{AreSmall, next_bases};
@@ -20,7 +20,7 @@ pub(crate) struct LinkUnit<'a> {
     pub(crate) object: &'a Compiled,
 }
 
-// A unit, and what stands before its object.
+// A unit, and what precedes its object.
 #[derive(Clone, Copy)]
 pub(crate) struct Located<'a> {
     pub(crate) key: &'a UnitKey,
@@ -28,7 +28,7 @@ pub(crate) struct Located<'a> {
     pub(crate) before: Bases,
 }
 
-// Whether the starting code elaborates it.
+// Whether the starting code elaborates a unit of this kind.
 pub(crate) fn is_item(kind: UnitKind) -> bool
     ensures { result ≡ sums.is_item kind }
 {
@@ -38,7 +38,7 @@ pub(crate) fn is_item(kind: UnitKind) -> bool
     }
 }
 
-// What stands before the first object: the starting code.
+// What precedes the first object: the starting code.
 pub(crate) fn first_bases(units: &[LinkUnit<'_>]) -> Bases
     requires { length units.now ≤ 65535 }
     ensures value { result ≡ sums.first_bases (map unit_model units.now) }
@@ -58,7 +58,7 @@ pub(crate) fn first_bases(units: &[LinkUnit<'_>]) -> Bases
     }
 }
 
-// The units with what stands before each of them, and what stands after all.
+// The units with what precedes each of them, and what precedes the end.
 pub(crate) fn locate<'a>(
     alloc: Global,
     first: Bases,

@@ -13,7 +13,7 @@ use crate::patch::patch;
 use crate::places::Places;
 use al_code_object::{Compiled, Object};
 
-// Writes an object's code over what stands at its place, and fills in its operands.
+// Writes an object's code over what is at its place, and fills in its operands.
 fn write_object(code: &mut [u8], base: usize, object: &Compiled, places: &Places)
     requires fits { base + length object.now.code ≤ length code.old }
     requires small { base ≤ 16777216 }
@@ -25,7 +25,7 @@ fn write_object(code: &mut [u8], base: usize, object: &Compiled, places: &Places
     patch(code, base, object.code(), object.uses(), places);
 }
 
-// The same where the code before is code: code it stays.
+// Writes an object's code over what is at its place. If what precedes it is a row of instructions, so is the whole.
 fn write_code(code: &mut [u8], base: usize, object: &Compiled, places: &Places)
     requires fits { base + length object.now.code ≤ length code.old }
     requires small { base ≤ 16777216 }
@@ -38,7 +38,7 @@ fn write_code(code: &mut [u8], base: usize, object: &Compiled, places: &Places)
     write_object(code, base, object, places);
 }
 
-// Writes the code of units, one after the other, over what stands after the starting code, up to the end.
+// Writes the code of units, one after the other, over what follows the starting code, up to the end.
 fn write_units(code: &mut [u8], start: usize, units: &[CompiledUnit<'_>], places: &Places)
     requires size { start + code_size (compiled_units units.now) ≡ length code.old }
     requires small { length code.old ≤ 16777216 }

@@ -1,4 +1,4 @@
--- What is told of the last build, in the words of a session.
+-- What is reported of the last build, in the types of a session.
 use Rattle.std.proofs.Common.{◌≡◌, ℕ, List, Option, Some, None, Ok, option_map, refl, ap, subst, ◌∙◌}
 use Rattle.al_base.specs.Files.{Texts}
 use Rattle.al_unit_graph.specs.Headers.{Header, Library}
@@ -51,7 +51,7 @@ module _ (meaning : TextMeaning) (header : List ℕ → Header) (predefined : Qu
   run_of_last None program tick steps run right is ran = cc
   run_of_last (Some b) program tick steps run right is ran = the_run b.files b.main b.gave.compiled program tick steps run right is ran
 
-  -- where the library answers with a run, so does the session
+  -- if the library answers with a run, so does the session
   pub run_answers : (files : Texts) (built : Option Built) (state : State) (tick steps : ℕ) (ran : image_ran.RunReport) (ended : ends.RunEnd)
       → state_of files built ≡ state → IsLastOnly meaning header predefined library built → ended ≡ end_of ran.ended
       → (program : Program) → reported program_of built ≡ Ok program → images.run_model ran ≡ images.run_of (image_in program) tick steps

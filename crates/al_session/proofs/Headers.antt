@@ -1,4 +1,4 @@
--- Just the subunits of a library of texts name a parent body, whatever is taken for the header of a text that is no unit.
+-- Only the subunits of a library of sources name a parent body, whatever is taken for the header of a source that is no unit.
 use Rattle.std.proofs.Common.{ℕ, List, [], false, None, ap}
 use Rattle.al_base.specs.Files.{Texts}
 use Rattle.al_unit_header.specs.Units.{header_of}

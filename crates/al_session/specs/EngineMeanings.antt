@@ -1,5 +1,5 @@
--- What the files of a library mean: what compiling them from nothing gives, what its image puts out, their units, and which of these are
--- obsolete. No entry that is kept and no earlier build has a part in it.
+-- The meaning of a library's files: the result of compiling them from nothing, the output of its image, their units, and which of these are
+-- obsolete. It depends on no kept entry and no earlier build.
 use Rattle.std.specs.Prelude.{ℕ, ◌≡◌, List, [], map, Option, option_map, IfSome}
 use Rattle.std.specs.List.{fold}
 use Rattle.std.specs.BTreeSet.{insert_key}
@@ -35,19 +35,19 @@ module _ (meaning : TextMeaning) (header : List ℕ → Header) (predefined : Qu
     pub only : (g : UnitKey → Option Outcome) → Solves (with_texts meaning (library files)) (setting_of header predefined (library files)) g → (u : UnitKey) → g u ≡ outcomes u
     pub is_batch : IsBatch (library files) outcomes main compiled
 
-  -- what it gives
+  -- the result of compiling
   pub record Compiles (files : Texts) (main : List ℕ) (gave : adds.BuildResult) : Type 0 where
     pub compiled : Compiled
     pub compiles : CompilesTo files main compiled
     pub gave_is : gave ≡ result_of compiled
 
-  -- the run of the image that it gives
+  -- the run of the image of that result
   pub record Runs (files : Texts) (main : List ℕ) (tick steps : ℕ) (run : adds.Run) : Type 0 where
     pub program : Program
     pub compiles : CompilesTo files main (Made program)
     pub run_is : run ≡ run_told (run_of (image_in program) tick steps)
 
--- the files of which a build told something, in the order of the names
+-- the files for which a build has an entry, in the order of the names
 abbrev pub files_reported : adds.BuildResult → List (List ℕ)
 files_reported gave = fold (insert_key name_cmp) [] (map (λ f. f.file) (adds.findings_of gave))
 
@@ -68,6 +68,6 @@ last_model b = record { files = b.files; main = b.main; gave = result_of b.gave.
 abbrev pub state_of : Texts → Option Built → State
 state_of now built = record { now = now; built = option_map last_model built }
 
--- what the last build gave is what compiling its files gives, with the outcomes that alone solve their equations
+-- the result of the last build is that of compiling its files, with the outcomes that alone solve their equations
 abbrev pub IsLastOnly : TextMeaning → (List ℕ → Header) → (Query → AnswerKind) → (Texts → Library) → Option Built → Type 0
 IsLastOnly meaning header predefined library built = IfSome built (λ b. CompilesTo meaning header predefined library b.files b.main b.gave.compiled)

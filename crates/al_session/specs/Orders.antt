@@ -1,4 +1,4 @@
--- What the orders of elaboration that builds give obey, in every session.
+-- What the elaboration orders of builds obey, in every session.
 use Rattle.std.specs.Prelude.{◌≡◌, ℕ, Bool, List, Some}
 use Rattle.al_base.specs.Batch.{Key}
 use Rattle.al_unit_graph.specs.Headers.{Header}
@@ -10,7 +10,7 @@ use Rattle.al_session_served.specs.Library.{LastBuild, empty, with_tick}
 use Rattle.al_session_served.specs.Session.{Outcome, IsSession}
 use Rattle.al_session.specs.Meanings.{library_meaning}
 
--- the order that the last build gave, with an image or without one, obeys every dependence and every pragma of its files
+-- the order of the last build, with an image or without one, obeys every dependence and every pragma of its files
 abbrev pub BuildsObey : TextMeaning → (List ℕ → Header) → Type 0
 BuildsObey meaning header =
     (tick : ℕ) (at_end : Bool) (commands : ℕ) (marks : List Bool) (bytes : List ℕ) (all : Outcome) (last : LastBuild) (order : List Key)

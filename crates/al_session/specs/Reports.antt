@@ -1,4 +1,4 @@
--- What reports of diagnostics tell in a session.
+-- Reports of diagnostics in a session.
 use Rattle.std.specs.Prelude.{◌≡◌, ℕ, Bool, List, Some}
 use Rattle.std.specs.List.Sorted.{IsStrictlySortedBy}
 use Rattle.al_base.specs.Batch.{Finding}
@@ -10,7 +10,7 @@ use Rattle.al_session_served.specs.Library.{LastBuild, empty, with_tick}
 use Rattle.al_session_served.specs.Session.{Outcome, IsSession}
 use Rattle.al_session.specs.Meanings.{library_meaning}
 
--- what the last build found, in every session, stands by file, place and code, and nothing is told twice
+-- the diagnostics of the last build, in every session, are sorted by file, place and code, without duplicates
 abbrev pub ReportsAscend : TextMeaning → (List ℕ → Header) → Type 0
 ReportsAscend meaning header =
     (tick : ℕ) (at_end : Bool) (commands : ℕ) (marks : List Bool) (bytes : List ℕ) (all : Outcome) (last : LastBuild) (findings : List Finding)

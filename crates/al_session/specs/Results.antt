@@ -1,4 +1,4 @@
--- What a build and a run of the engine give, in the words of a session.
+-- The results of a build and a run of the engine, in the types of a session.
 use Rattle.std.specs.Prelude.{ℕ, List, map}
 use Rattle.al_base.specs.Batch.{finding_of, key_of}
 use Rattle.al_bind.specs.Binding.{line_model}
@@ -26,7 +26,7 @@ fault_result (Lacks (Body name)) = adds.NoBody name
 fault_result (Lacks (Subunit name)) = adds.NoSubunit name
 fault_result (Cycle lines) = adds.Cycle (map line_model lines.items)
 
--- what compiling gives
+-- the result of compiling
 abbrev pub result_of : Compiled → adds.BuildResult
 result_of (Faulty diagnostics) = adds.Faulty (map finding_of diagnostics.items)
 result_of (Unbound fault) = fault_result fault
@@ -46,6 +46,6 @@ end_of Spent = ended.Spent
 end_of Stuck = ended.Stuck
 end_of (Raised raised unit line) = ended.Raised (exception_of raised) unit line
 
--- what a run gives
+-- the result of a run
 abbrev pub run_told : images.Run → adds.Run
 run_told run = record { output = run.0; ended = end_of run.1 }

@@ -1,4 +1,4 @@
--- What compiling gives is one thing, and so is what its image puts out.
+-- The result of compiling is unique, and so is the output of its image.
 use Rattle.std.proofs.Common.{◌≡◌, ℕ, List, Option, map, refl, sym, ap, subst, ◌∙◌, inl, inr}
 use Rattle.al_base.specs.Files.{Texts}
 use Rattle.al_base.specs.declared.unit_key.UnitKey.{UnitKey}
@@ -31,7 +31,7 @@ use Rattle.al_session_served.specs.Library.{IsSettled}
 use Rattle.al_session.specs.EngineMeanings.{CompilesTo, meaning_of}
 use Rattle.al_session.specs.Results.{result_of, run_told}
 
--- a reply of the laws, in the words of a session
+-- a reply of the laws, in the types of a session
 from_reply : replies.Reply → adds.BuildResult
 from_reply (replies.Faulty findings) = adds.Faulty findings
 from_reply (replies.Unbound (inl lack.Main)) = adds.NoMain

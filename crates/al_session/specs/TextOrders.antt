@@ -1,4 +1,4 @@
--- What an order of elaboration obeys, and that each one does where the library is read from texts.
+-- What an elaboration order obeys, and that each one does if the library is read from sources.
 use Rattle.std.specs.Prelude.{ℕ, ◌+◌, List, IsTrue}
 use Rattle.al_base.specs.Batch.{Key}
 use Rattle.al_base.specs.Files.{Texts}
@@ -13,9 +13,9 @@ use Rattle.al_bind.specs.Numbers.{IsAt}
 
 -- The order obeys every dependence and every pragma of the partition.
 pub record Obeys (lib : Library) (main : List ℕ) (order : List Key) : Type 0 where
-  -- where x is elaborated after y for any reason, and the two are no pair, y stands before x
+  -- if x is elaborated after y for any reason, and the two are no pair, y comes before x
   pub reasons : (reason : Reason) (x y : Key) → Carries lib main reason x y → StandsBefore order y x
-  -- the body of a pair under Elaborate_Body stands right after its declaration
+  -- the body of a pair under Elaborate_Body comes right after its declaration
   pub pairs : (name : List ℕ) → IsTrue (is_pair lib name) → IsItem lib main (name, Decl) → (i : ℕ) × IsAt order (name, Decl) i × IsAt order (name, Body) (i + 1)
 
 abbrev pub OrdersOfTextsObey : Type 0

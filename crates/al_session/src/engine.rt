@@ -14,11 +14,11 @@ use std::alloc::Global;
 /// A library of Ada units over a checker: its files, what is kept of its units, and its last build.
 pub type Engine<C> = Served<AdaFiles, C, PredefinedUnits>;
 
-/// A library with no file and no build, of whatever checker takes what is read of Ada texts.
+/// A library without files and builds, over any checker of parsed Ada units.
 ///
 /// # Errors
 ///
-/// `NoMemory` where memory was wanted and not given.
+/// `NoMemory` if the allocator refuses memory.
 pub fn new_engine<C: UnitCheck<Text = AdaText> + Drop>(
     alloc: Global,
     checker: C,

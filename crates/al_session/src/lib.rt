@@ -1,5 +1,9 @@
-//! A session over a library of Ada units: from the bytes of commands to the bytes of replies, for every checker of units. A build checks
-//! again what an edit reaches.
+//! A session over a library of Ada units: from the bytes of commands to the bytes of replies, for every checker of units. A build checks again only
+//! what an edit affects.
+//!
+//! - `served` makes the engine a library for sessions, and `outcomes` translates its results. `engine` is that library for Ada.
+//! - `serving` is the session, `whole` a session from an empty library, `memory` one over bytes in memory.
+//! - `laws`, `order_laws` and `text_laws` say what is proved of every session.
 #![tactic(auto)]
 
 mod engine;

@@ -1,4 +1,4 @@
-// What a build and a run give, in the words of a session.
+// The results of builds and runs, in the types of a session.
 ghost use Rattle.std.specs.Prelude.{◌≡◌};
 ghost use Rattle.al_session_served.specs.Outcomes.{outcome_model};
 ghost use Rattle.al_session.specs.Results.{end_of, exception_of, fault_result, result_of};
@@ -9,7 +9,7 @@ use al_machine::Exception as Raising;
 use al_session_served::{Exception, Outcome, RunEnd};
 use al_tasks::RunEnd as ImageEnd;
 
-/// What compiling gave, as the library holds it.
+/// The outcome of a build, as the library holds it.
 pub(crate) fn outcome_of(compiled: &Compiled) -> Outcome<'_>
     ensures { outcome_model result ≡ result_of compiled.now }
 {
@@ -21,7 +21,7 @@ pub(crate) fn outcome_of(compiled: &Compiled) -> Outcome<'_>
     }
 }
 
-// Why there is no order.
+// The outcome of a build whose partition has no order.
 fn fault_of(fault: &BindFault) -> Outcome<'_>
     ensures { outcome_model result ≡ fault_result fault.now }
 {

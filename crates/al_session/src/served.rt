@@ -1,4 +1,4 @@
-// The engine as a session has it.
+// The engine as a library for sessions.
 ghost use Rattle.std.specs.Prelude.{◌≡◌};
 ghost use Rattle.al_engine_refresh.specs.Settings.{ArePredefined};
 ghost use Rattle.al_engine.specs.States.{AreReadFor};
@@ -15,7 +15,7 @@ use al_session_served::{Built, RunReport, UnitLibrary};
 use std::alloc::Global;
 use std::marker::Model;
 
-/// A library that checks again what an edit reaches: its files, what is kept of its units, and its last build.
+/// A library that checks again only what an edit affects: its files, what is kept of its units, and its last build.
 #[derive(Drop)]
 pub struct Served<R: ReadFiles, C: UnitCheck, P: FixedAnswers> {
     engine: Engine<R, C, P>,
@@ -33,7 +33,7 @@ impl<R: ReadFiles, C: UnitCheck, P: FixedAnswers> Model for Served<R, C, P> {
 }
 
 impl<R: ReadFiles, C: UnitCheck, P: FixedAnswers> Served<R, C, P> {
-    /// A library with no file and no build. It takes no memory.
+    /// A library without files and builds. It takes no memory.
     pub fn new(alloc: Global, checker: C, predefined: P) -> Self
         requires reading { AreReadFor C.Text.header R.library }
         requires predefined { ArePredefined P.answers }
@@ -44,8 +44,8 @@ impl<R: ReadFiles, C: UnitCheck, P: FixedAnswers> Served<R, C, P> {
         }
     }
 
-    /// The library itself, which tells what no reply does: the units that the last build checked, how many checks were made, the image as it
-    /// is held. It takes no memory.
+    /// The engine itself. It has what no reply shows: the units that the last build checked, the number of checks made, and the image as it is held.
+    /// It takes no memory.
     pub fn engine(&self) -> &Engine<R, C, P>
         ensures { state_of result.now.files result.now.built ≡ self.now }
     {

@@ -12,14 +12,14 @@ use al_session_served::{Ended, MAX_COMMANDS, MAX_PULLS};
 use al_session_stream::{Device, Sink, Source};
 use std::alloc::Global;
 
-/// Carries out the commands that the reader gives, at most so many and with at most so many pulls, and writes their replies. A run has a
+/// Carries out the commands that the reader gives, at most `commands` of them and with at most `pulls` pulls, and writes their replies. A run has a
 /// tick of the clock after each `tick` instructions.
-/// - `served`: what is written is the replies of the plain session to what is read, and nothing else; and no more is read than they want.
+/// - `served`: what is written is the replies of the plain session to what is read, and nothing else. No more is read than the commands need.
 /// - `read`, `write`: a device that fails leaves a prefix of them.
 ///
 /// # Errors
 ///
-/// The device that failed; [`Device::Read`] also where the session wants more pulls.
+/// [`Device::Read`] if a pull fails or none is left; [`Device::Write`] if a push or a flush fails.
 pub fn serve_within<S: Source, K: Sink, C: UnitCheck>(
     alloc: Global,
     reader: &mut S,
@@ -44,11 +44,11 @@ pub fn serve_within<S: Source, K: Sink, C: UnitCheck>(
     al_session_served::serve_within(alloc, reader, writer, library, tick, commands, pulls)
 }
 
-/// `serve_within`, with the bounds of a session.
+/// Serves a session as [`serve_within`] does, with the greatest numbers of commands and pulls of a session.
 ///
 /// # Errors
 ///
-/// As there.
+/// As for [`serve_within`].
 pub fn serve<S: Source, K: Sink, C: UnitCheck>(
     alloc: Global,
     reader: &mut S,

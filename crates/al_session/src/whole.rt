@@ -1,4 +1,4 @@
-// A session from a library with no file.
+// A session from an empty library.
 ghost use Rattle.std.specs.Prelude.{◌≡◌, ◌+◌, ◌-◌, ◌^◌, ◌<◌, ◌≤◌, IfOk, IsErrOf, OnErr};
 ghost use Rattle.al_session_stream.specs.Input.{source_moment};
 ghost use Rattle.al_session_stream.specs.Output.{sink_moment};
@@ -16,15 +16,15 @@ use al_session_stream::{Device, Sink, Source};
 use al_unit::AdaText;
 use std::alloc::Global;
 
-/// A whole session: carries out the commands that the reader gives, from a library with no file, and writes their replies. What
-/// [`serve`] answers is answered as it is.
-/// - `served`: what is written is the replies of the plain session to what is read, and nothing else; and how it ended is told.
+/// A whole session: carries out the commands that the reader gives, from an empty library, and writes their replies. The result of [`serve`] is
+/// given as it is.
+/// - `served`: what is written is the replies of the plain session to what is read, and nothing else; and the result says how the session ended.
 /// - `read`, `write`: a device that fails leaves a prefix of them.
-/// - `refused`: without memory for the library nothing is read and nothing is written.
+/// - `refused`: if memory for the library is refused, nothing is read and nothing is written.
 ///
 /// # Errors
 ///
-/// `NoMemory` where memory for the library was wanted and not given.
+/// `NoMemory` if memory for the library is refused.
 pub fn session<S: Source, K: Sink, C: UnitCheck<Text = AdaText> + Drop>(
     alloc: Global,
     checker: C,
@@ -47,7 +47,7 @@ pub fn session<S: Source, K: Sink, C: UnitCheck<Text = AdaText> + Drop>(
 {
     let mut library = new_engine(alloc, checker)?;
     let ended = serve(alloc, reader, writer, &mut library, tick);
-    // The system takes the memory back at the end of the process; to let go of all that is kept would only take time.
+    // The system takes the memory back at the end of the process; dropping all that is kept would only take time.
     std::mem::forget(library);
     Ok(ended)
 }

@@ -42,7 +42,7 @@ unfolding first
 first_last [] none some = absurd (omega arith)
 first_last (b ∷ bs) none some = ap (by_cut true (b ∷ bs)) none
 
--- the front of a line
+-- a prefix of the line
 pub first_open : (bytes : List ℕ) → cut_at 10 bytes ≡ None → first false bytes ≡ None
 unfolding first
 first_open bytes none = ap (by_cut false bytes) none
@@ -109,7 +109,7 @@ simple_whole s at_end more = ap (λ rest. Some (simple_model s, rest)) (sym (lef
 drop_after : (text more : List ℕ) (n : ℕ) → length text ≡ n → drop (n + 1) (text ++ 10 ∷ more) ≡ more
 drop_after text more n count = rw (← append_assoc text (10 ∷ []) more) (drop_at (text ++ 10 ∷ []) more (n + 1) (grind (arith, length-append text (10 ∷ []))))
 
--- the text of a put
+-- the bytes of a put
 module _ (name : List ℕ) (len : ℕ) where
   pub text_whole : (text : List ℕ) → length text ≡ len → IsText (PutLine name len) (text ++ 10 ∷ []) (Put name text) false
   unfolding after_put
@@ -170,7 +170,7 @@ module _ (name : List ℕ) (len : ℕ) where
         one_more = λ e. count;
       }
 
--- a put at the end of the input has no text
+-- a put at the end of the input has no bytes
 pub put_at_end : (name : List ℕ) (len : ℕ) → after_line true (PutLine name len) [] ≡ Some (BadLength, [])
 unfolding after_put
 put_at_end name len = let few : ltb len 0 ≡ false = grind (arith, nat_tests) in rw few refl
@@ -221,7 +221,7 @@ acts_on_last_put m old new line name len read is some before after reply ends is
   adds = λ none. let e = answers.0 in cc;
 }
 
--- a put and its text
+-- a put and its bytes
 pub acts_on_put : (m : Meaning) (old mid new : Moment) (line : List ℕ) (kind : LineKind) → ReadsLine old mid line (Ok true) → kind ≡ line_of line → (before after : State) (reply : List ℕ) (ends : Option Ended) (is_last : Bool) → is_last ≡ false → ActsOnRest m kind mid new before after reply ends → ActsOn m old new before after reply ends is_last
 acts_on_put m old mid new line kind read is before after reply ends is_last not_last acted = record {
   command = acted.command;

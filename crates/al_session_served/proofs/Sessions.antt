@@ -14,7 +14,7 @@ use Rattle.al_session_stream.specs.Output.{IsFront}
 use Rattle.al_session_served.specs.Serving.{Serves, IsOpen, Calls, LacksInput, StopsReading, StopsWriting}
 use Rattle.al_session_served.proofs.Turns.{Turned, Reached, session-zero, session_over, first-nil, is_input, none_left}
 
--- calls that bytes wanted are wanted by these bytes and more
+-- calls that bytes needed are needed by these bytes and more
 pub calls_more : (commands : ℕ) (input more : List ℕ) (before after : ℕ) → Calls commands input before after → Calls commands (input ++ more) before after
 calls_more commands input more before after calls = elim calls [
   | inl none ↦ inl none
@@ -31,13 +31,13 @@ nothing_more : (done part : List ℕ) → done ++ part ≡ done → part ≡ []
 nothing_more done part e = nil_from_length part (omega (arith, length-append done part, ap length e))
 
 module _ (m : Meaning) (commands : ℕ) (start now : State) (taken done : List ℕ) (k : ℕ) (reached : Reached m start now taken done k) where
-  -- where nothing more is answered
+  -- if nothing more is answered
   over_after : (at_end : Bool) (more : List ℕ) → k ≤ commands → IsSession m at_end (commands - k) now [] more (over now) → IsSession m at_end commands start (reached.marks ++ []) (taken ++ more) (prepend done (over now))
   over_after at_end more le nothing =
       let count : k + (commands - k) ≡ commands = omega arith in
       subst (λ (n : ℕ). IsSession m at_end n start (reached.marks ++ []) (taken ++ more) (prepend done (over now))) count (reached.step at_end (commands - k) [] more (over now) nothing)
 
-  -- the calls that one more command wanted
+  -- the calls that one more command needed
   pub calls_in_need : (bytes : List ℕ) (last : Bool) (most before after : ℕ) → k < commands → WantsPulls bytes last most → after ≤ before + (length taken + most) → Calls commands (taken ++ bytes) before after
   calls_in_need bytes last most before after lt wants le =
       let rest : k + suc (commands - k - 1) ≡ commands = omega arith in

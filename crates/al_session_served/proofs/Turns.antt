@@ -17,7 +17,7 @@ session-suc : (m : Meaning) (at_end : Bool) (n : ℕ) (state : State) (marked : 
 unfolding IsSession
 session-suc m at_end n state marked marks bytes all turn = turn
 
--- where no command is left, the session is over
+-- if no command is left, the session is over
 pub session_over : (m : Meaning) (at_end : Bool) (n : ℕ) (state : State) (marks : List Bool) (bytes : List ℕ) → first at_end bytes ≡ None → IsSession m at_end n state marks bytes (over state)
 unfolding IsSession
 session_over m at_end zero state marks bytes none = refl
@@ -69,7 +69,7 @@ module _ (m : Meaning) (before after : State) (reply : List ℕ) where
   answer_ends ReportObsolete ends e a some go rest = let n = a.0 in cc
   answer_ends Bad ends e a some go rest = let n = a.0 in cc
 
--- where a command after which the session goes on stands first, the session is open as it is with what follows
+-- if a command after which the session goes on comes first, the session is open as it is with what follows
 opens : (m : Meaning) (before after : State) (reply : List ℕ) (command : Command) → AnswersAndEnds m before after reply None command → (n : ℕ) (bytes more : List ℕ) → first false bytes ≡ Some (command, left_by command more) → IsOpen n more → IsOpen (suc n) bytes
 opens m before after reply (Put name text) a n bytes more is o = IsOpen.goes_on is tt o
 opens m before after reply (Delete name) a n bytes more is o = IsOpen.goes_on is tt o
@@ -132,7 +132,7 @@ reached_more {m} {start} {now} {next} {taken} {done} bytes reply {count} marked 
       (reached.step at_end (suc n) (marked ∷ later) (bytes ++ more) (prepend reply all) (one at_end n later more all is));
 }
 
--- what a reader that tells its bytes has given and has left are all of them
+-- what a reader that shows its bytes has given and has left are all of them
 pub is_input : (old new : Option (List ℕ)) (bytes : List ℕ) → Consumes old new bytes → IsInput old (bytes ++ unwrap_or new [])
 is_input None new bytes h = tt
 is_input (Some xs) None bytes h = absurd h
@@ -146,6 +146,6 @@ pub known-nil : (x : Option (List ℕ)) → prepend_known [] x ≡ x
 known-nil None = refl
 known-nil (Some xs) = refl
 
--- the end of the input, where no command begins
+-- the end of the input, if no command begins
 pub wants_nothing : WantsPulls [] true 1
 wants_nothing = record { early = []; late = []; parts = refl; unfinished = first-nil false; count = omega arith; one_more = λ e. cc }

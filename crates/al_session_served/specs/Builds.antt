@@ -1,19 +1,19 @@
--- What a build gives, and what a run gives, as plain data.
+-- The results of builds and runs, as plain data.
 use Rattle.std.specs.Prelude.{ℕ, List, [], Option, Some, None}
 use Rattle.al_base.specs.Batch.{Finding, Key}
 use Rattle.al_base_graph.specs.declared.edge.Reason.{Reason}
 use Rattle.al_session_served.specs.declared.run.RunEnd.{RunEnd}
 use Rattle.al_session_served.specs.declared.run.RunReport.{RunReport}
 
--- what compiling files into an empty library gives, for a main unit
+-- the result of compiling files into an empty library, for a main unit
 pub data BuildResult : Type 0 where
-  -- what is wrong, by file, place and number; at least one
+  -- the errors, by file, place and number; at least one
   Faulty : List Finding → BuildResult
   -- the main unit is no parameterless procedure of the library (ARM 10.2(7))
   NoMain : BuildResult
-  -- the body of the needed declaration of this name isn't there (ARM 10.2(4))
+  -- the body of the needed declaration with this name is missing (ARM 10.2(4))
   NoBody : List ℕ → BuildResult
-  -- the needed subunit of this name isn't there (ARM 10.2(5))
+  -- the needed subunit with this name is missing (ARM 10.2(5))
   NoSubunit : List ℕ → BuildResult
   -- the lines of a cycle, which shows that there is no order: an item, the item before it, and why (ARM 10.2.1(17))
   Cycle : List (Key × Key × Reason) → BuildResult
@@ -22,7 +22,7 @@ pub data BuildResult : Type 0 where
   -- the elaboration order and the image's bytes
   Made : List Key → List ℕ → BuildResult
 
--- what is wrong with the files
+-- the errors in the files
 abbrev pub findings_of : BuildResult → List Finding
 findings_of (Faulty findings) = findings
 findings_of NoMain = []
@@ -32,7 +32,7 @@ findings_of (Cycle lines) = []
 findings_of (TooLarge order) = []
 findings_of (Made order image) = []
 
--- the order of elaboration, where there is one
+-- the elaboration order, if there is one
 abbrev pub order_of : BuildResult → Option (List Key)
 order_of (Faulty findings) = None
 order_of NoMain = None
@@ -42,7 +42,7 @@ order_of (Cycle lines) = None
 order_of (TooLarge order) = Some order
 order_of (Made order image) = Some order
 
--- the bytes of the image, where there is one
+-- the bytes of the image, if there is one
 abbrev pub image_of : BuildResult → Option (List ℕ)
 image_of (Faulty findings) = None
 image_of NoMain = None
@@ -52,7 +52,7 @@ image_of (Cycle lines) = None
 image_of (TooLarge order) = None
 image_of (Made order image) = Some image
 
--- what a run put out, and how it ended
+-- the output of a run, and how it ended
 pub record Run : Type 0 where
   pub output : List ℕ
   pub ended : RunEnd

@@ -1,4 +1,4 @@
--- What a library stands for: its files, and its last build. Nothing else of it shows in a reply.
+-- The model of a library: its files, and its last build. Nothing else of it is visible in a reply.
 use Rattle.std.specs.Prelude.{ℕ, ◌≡◌, List, [], Option, Some, None, option_map}
 use Rattle.al_base.specs.Files.{Texts}
 use Rattle.al_base.specs.Batch.{Key, key_of}
@@ -7,7 +7,7 @@ use Rattle.al_base.specs.declared.refusal.Refusal.{Refusal}
 use Rattle.al_base.specs.declared.refusal.Refusal.TheVariants.{NotBuilt, NoImage}
 use Rattle.al_session_served.specs.Builds.{BuildResult, Run, image_of}
 
--- the files as the last build found them, its main unit, and what it gave
+-- the files as the last build found them, its main unit, and its result
 pub record LastBuild : Type 0 where
   pub files : Texts
   pub main : List ℕ
@@ -22,24 +22,24 @@ pub record State : Type 0 where
 abbrev pub empty : State
 empty = record { now = []; built = None }
 
--- What the files of a library mean. What compiling and running give is told by relations; IsSettled says that each gives one thing.
+-- The meaning of a library's files. The results of compiling and running are given as relations; IsSettled says that each result is unique.
 pub record LibraryMeaning : Type 1 where
   -- compiling the files from an empty library gives this for a main unit
   pub compiles : Texts → List ℕ → BuildResult → Type 0
-  -- the image that compiling these files gives for a main unit puts out this, with so many instructions between two ticks of the
-  -- clock, in at most so many events
+  -- the image that compiling these files gives for a main unit prints this, with so many instructions between two ticks of the clock, in at most so
+  -- many events
   pub runs : Texts → List ℕ → ℕ → ℕ → Run → Type 0
-  -- each file by its name, and the unit that it holds, where it holds a sound one
+  -- each file by its name, with its unit if that is without errors
   pub units_of : Texts → List (List ℕ × Option Key)
-  -- the files of a build, what it gave, and the files as they are: the units that are obsolete since that build (ARM 10.1.4)
+  -- the files of a build, its result, and the files as they are: the units that are obsolete since that build (ARM 10.1.4)
   pub obsolete_of : Texts → BuildResult → Texts → List Key
 
--- compiling gives one thing at most, and so does a run
+-- the result of compiling is unique, and so is that of a run
 pub record IsSettled (m : LibraryMeaning) : Type 0 where
   pub builds : (files : Texts) (main : List ℕ) (one two : BuildResult) → m.compiles files main one → m.compiles files main two → one ≡ two
   pub runs : (files : Texts) (main : List ℕ) (tick steps : ℕ) (one two : Run) → m.runs files main tick steps one → m.runs files main tick steps two → one ≡ two
 
--- What the files mean, and how many instructions stand between two ticks of the clock.
+-- The meaning of the files, and the number of instructions between two ticks of the clock.
 pub record Meaning : Type 1 where
   pub library : LibraryMeaning
   pub tick : ℕ
@@ -48,11 +48,11 @@ pub record Meaning : Type 1 where
 abbrev pub with_now : State → Texts → State
 with_now state files = record state { now = files }
 
--- the last build is of the files as they are, and gave this
+-- the last build is of the files as they are, and had this result
 abbrev pub after_build : State → List ℕ → BuildResult → State
 after_build state main gave = record state { built = Some (record { files = state.now; main = main; gave = gave }) }
 
--- a build sets the last build to what compiling the files as they are gives, whether it fails or not
+-- a build sets the last build to the result of compiling the files as they are, whether they have errors or not
 pub record IsBuilt (m : LibraryMeaning) (main : List ℕ) (old new : State) : Type 0 where
   pub gave : BuildResult
   pub compiles : m.compiles old.now main gave
@@ -80,10 +80,10 @@ abbrev pub run_refusal : Option LastBuild → Option Refusal
 run_refusal None = Some NotBuilt
 run_refusal (Some last) = image_refusal (image_of last.gave)
 
--- the main unit of the last build, and what it gave
+-- the main unit of the last build, and its result
 abbrev pub last_gave : LastBuild → List ℕ × BuildResult
 last_gave last = (last.main, last.gave)
 
--- what the files mean, with so many instructions between two ticks
+-- the meaning of the files, with so many instructions between two ticks
 abbrev pub with_tick : LibraryMeaning → ℕ → Meaning
 with_tick library tick = record { library = library; tick = tick }

@@ -8,7 +8,7 @@ use Rattle.al_session_stream.specs.Cuts.{cut_at}
 use Rattle.al_session_served.specs.declared.subject.ReportKind.{ReportKind}
 use Rattle.al_session_served.specs.declared.subject.ReportKind.TheVariants.{Diagnostics, Order, Image}
 
--- a command, with the text that follows a put
+-- a command, with the bytes that follow a put
 pub data Command : Type 0 where
   Put : List ℕ → List ℕ → Command
   Delete : List ℕ → Command
@@ -26,16 +26,16 @@ pub data Command : Type 0 where
   Quit : Command
   -- a line of another form
   Bad : Command
-  -- a put whose length or text is malformed
+  -- a put whose length or bytes are malformed
   BadLength : Command
 
--- what one line says
+-- a line as a command
 pub data LineKind : Type 0 where
   PutLine : List ℕ → ℕ → LineKind
   BadPutLine : LineKind
   WholeLine : Command → LineKind
 
--- the words of a line, parted by one space
+-- the words of a line, separated by one space
 abbrev pub words_of : List ℕ → List (List ℕ)
 words_of line = slice_split (λ b. b == 32) line
 
@@ -72,7 +72,7 @@ report_line subject =
     else if bytes_eq subject (codes "image") then WholeLine (Report Image)
     else WholeLine Bad
 
--- what the words say; an empty word is of another form
+-- the words as a command; an empty word makes a line of another form
 abbrev pub by_words : List (List ℕ) → LineKind
 by_words (verb ∷ []) = if bytes_eq verb (codes "quit") then WholeLine Quit else WholeLine Bad
 by_words (verb ∷ x ∷ []) =
@@ -93,7 +93,7 @@ by_words other = WholeLine Bad
 unfoldable pub line_of : List ℕ → LineKind
 line_of line = if nat_lt 600 (length line) then WholeLine Bad else by_words (words_of line)
 
--- the text of a put and the line end after it; after a malformed one nothing counts
+-- the bytes of a put and the line end after them; after a malformed one nothing counts
 unfoldable pub after_put : Bool → List ℕ → ℕ → List ℕ → Option (Command × List ℕ)
 after_put at_end name len rest =
     if nat_lt len (length rest)
@@ -111,8 +111,8 @@ by_cut true (b ∷ bs) None = after_line true (line_of (b ∷ bs)) []
 by_cut true [] None = None
 by_cut false bytes None = None
 
--- The first command that stands whole at the front of the bytes, and the bytes after it. At the end of the
--- input the last line needs no line end, and a put that is cut short is malformed.
+-- The first command that is whole at the beginning of the bytes, and the bytes after it. At the end of the input the last line needs no line end,
+-- and a put that is cut short is malformed.
 unfoldable pub first : Bool → List ℕ → Option (Command × List ℕ)
 first at_end bytes = by_cut at_end bytes (cut_at 10 bytes)
 

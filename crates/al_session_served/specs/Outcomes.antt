@@ -1,4 +1,4 @@
--- What the last build gave, as the code lends it.
+-- The result of the last build, as the code lends it.
 use Rattle.std.specs.Prelude.{ℕ, List, map}
 use Rattle.al_base.specs.Batch.{finding_of, key_of}
 use Rattle.al_bind.specs.Binding.{line_model}

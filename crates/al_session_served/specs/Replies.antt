@@ -57,7 +57,7 @@ reason_word ElaborateAll = codes "elaborate_all"
 abbrev pub cycle_line : Key × Key × Reason → List ℕ
 cycle_line line = key_words line.0 ++ codes " after " ++ key_words line.1 ++ codes " by " ++ reason_word line.2 ++ line_end
 
--- FILE KIND UNIT, or FILE fault where the file holds no sound unit
+-- FILE KIND UNIT, or FILE fault if the file holds no unit without errors
 abbrev pub file_line : List ℕ × Option Key → List ℕ
 file_line (file, Some key) = file ++ codes " " ++ kind_word key.1 ++ codes " " ++ key.0 ++ line_end
 file_line (file, None) = file ++ codes " fault\n"
@@ -67,12 +67,12 @@ exception_word Constraint = codes "constraint_error"
 exception_word Program = codes "program_error"
 exception_word Storage = codes "storage_error"
 
--- the line of a text, where it is known
+-- the line of a source, if it is known
 abbrev pub line_words : Option ℕ → List ℕ
 line_words None = []
 line_words (Some line) = codes " " ++ decimal line
 
--- how a run ended; where by an exception, in the code of which unit, and on which line of its text
+-- how a run ended; if by an exception, the unit whose code raised it, and the line of its source
 abbrev pub end_words : RunEnd → List ℕ
 end_words Finished = codes "finished"
 end_words Idle = codes "idle"
@@ -87,7 +87,7 @@ listing word line members = word ++ decimal (length members) ++ line_end ++ flat
 abbrev pub built_line : ℕ → ℕ → List ℕ
 built_line items bytes = codes "built " ++ decimal items ++ codes " " ++ decimal bytes ++ line_end
 
--- what a partition lacks, and the name of the unit
+-- what is missing in a partition, and the name of the unit
 abbrev pub lack_line : List ℕ → List ℕ → List ℕ
 lack_line word name = word ++ name ++ line_end
 
@@ -125,16 +125,16 @@ abbrev pub obsolete_reply : Option (List Key) → List ℕ
 obsolete_reply None = refused NotBuilt
 obsolete_reply (Some units) = listing (codes "obsolete ") key_line units
 
--- what was put out stands on lines of its own
+-- the output is on lines of its own
 abbrev pub run_reply : Run → List ℕ
 run_reply run = codes "output " ++ decimal (length run.output) ++ line_end ++ run.output ++ codes "\nend " ++ end_words run.ended ++ line_end
 
--- reports speak of the last build
+-- reports about the last build
 abbrev pub report_of : ReportKind → Option LastBuild → List ℕ
 report_of subject None = refused NotBuilt
 report_of subject (Some last) = report_reply subject last.gave
 
--- the reply to the build that was the last
+-- the reply to the last build
 abbrev pub build_reply_of : Option LastBuild → List ℕ
 build_reply_of None = []
 build_reply_of (Some last) = build_reply last.main last.gave

@@ -1,4 +1,4 @@
--- The bytes of a reply of the code, which speaks of the library as it is after the command.
+-- The bytes of a reply of the code, which shows the library as it is after the command.
 use Rattle.std.specs.Prelude.{ℕ, List, [], Some, map}
 use Rattle.al_base.specs.Batch.{key_of}
 use Rattle.al_session_served.specs.declared.reply.Reply.{Reply}

@@ -1,4 +1,4 @@
--- What a whole session over a reader and a writer does.
+-- A whole session over a reader and a writer.
 use Rattle.std.specs.Prelude.{◌≡◌, ℕ, suc, ◌+◌, ◌^◌, ◌<◌, ◌≤◌, ◌⊎◌, Bool, true, false, List, ◌++◌, length, Option, Some, None}
 use Rattle.std.specs.Io.KnownBytes.{Appends, Consumes}
 use Rattle.al_session_stream.specs.Input.{SourceMoment}
@@ -8,7 +8,7 @@ use Rattle.al_session_served.specs.Library.{State, Meaning}
 use Rattle.al_session_served.specs.Lines.{Command, Quit, BadLength, first}
 use Rattle.al_session_served.specs.Session.{Outcome, IsSession}
 
--- these are all the bytes that the reader gives, where it tells them
+-- these are all the bytes that the reader gives, if its type says
 abbrev pub IsInput : Option (List ℕ) → List ℕ → Type 0
 IsInput None input = Unit {0}
 IsInput (Some bytes) input = bytes ≡ input
@@ -19,13 +19,13 @@ GoesOn Quit = ⊥
 GoesOn BadLength = ⊥
 GoesOn other = Unit {0}
 
--- A session of so many commands isn't over with these bytes: after fewer whole commands, of which none ends it, comes no whole command.
+-- A session of so many commands isn't over after these bytes: after fewer whole commands, none of which ends it, comes no whole command.
 pub data IsOpen : ℕ → List ℕ → Type 0 where
   waits : {n : ℕ} {bytes : List ℕ} → first false bytes ≡ None → IsOpen (suc n) bytes
   goes_on : {n : ℕ} {bytes rest : List ℕ} {command : Command} → first false bytes ≡ Some (command, rest) → GoesOn command → IsOpen n rest → IsOpen (suc n) bytes
 
--- The reader was called once at most for each byte and once for the end, and not once the session was over: before the last call it
--- wasn't over with the bytes that had come.
+-- The reader was called at most once for each byte and once for the end, and never after the session was over: before the last call it wasn't over
+-- with the bytes that had come.
 pub record IsCalledInNeed (commands : ℕ) (input : List ℕ) (before after : ℕ) : Type 0 where
   pub early : List ℕ
   pub late : List ℕ
@@ -36,8 +36,8 @@ pub record IsCalledInNeed (commands : ℕ) (input : List ℕ) (before after : �
 abbrev pub Calls : ℕ → List ℕ → ℕ → ℕ → Type 0
 Calls commands input before after = (after ≤ before) ⊎ IsCalledInNeed commands input before after
 
--- The session went through to its end: what was written, the library and the end are those of the session over the input. No device
--- failed, no more was read than was wanted, and all replies were passed on.
+-- The session went through to its end: what was written, the library and the end are those of the session over the input. No device failed, no more
+-- was read than needed, and all replies were passed on.
 pub record Serves (m : Meaning) (commands : ℕ) (reader reader_after : SourceMoment) (writer writer_after : SinkMoment) (before after : State) (ended : Ended) : Type 0 where
   pub input : List ℕ
   pub marks : List Bool
@@ -57,8 +57,8 @@ LacksInput pulls input reader reader_after =
     (reader_after.faults ≡ reader.faults + 1)
     ⊎ ((reader_after.faults ≡ reader.faults) × (reader_after.pulls ≡ reader.pulls + pulls) × (pulls ≤ length input))
 
--- The reader failed: what was written and the library are those of the commands that stand whole in the bytes that were read, and
--- their replies were passed on before.
+-- The reader failed: what was written and the library are those of the commands that are whole in the bytes that were read, and their replies were
+-- passed on before.
 pub record StopsReading (m : Meaning) (commands pulls : ℕ) (reader reader_after : SourceMoment) (writer writer_after : SinkMoment) (before after : State) : Type 0 where
   pub input : List ℕ
   pub marks : List Bool
@@ -72,7 +72,7 @@ pub record StopsReading (m : Meaning) (commands pulls : ℕ) (reader reader_afte
   pub no_fault : writer_after.faults ≡ writer.faults
   pub passed : writer.waits ≡ false → writer_after.waits ≡ false
 
--- The writer failed: so many replies were passed on, and of the next one a prefix was written; the library is that after its command.
+-- The writer failed: so many replies were passed on, and a prefix of the next one was written; the library is that after its command.
 pub record StopsWriting (m : Meaning) (commands : ℕ) (reader : SourceMoment) (writer writer_after : SinkMoment) (before after : State) : Type 0 where
   pub input : List ℕ
   pub marks : List Bool
@@ -100,8 +100,8 @@ pub record ServesBytes (m : Meaning) (input : List ℕ) (before after : State) (
   pub replies_are : replies ≡ all.replies
   pub state : after ≡ all.state
 
--- More calls of the reader were wanted than a session may have: the library is that of the commands that stand whole in the bytes that
--- were read, a byte at least for each call.
+-- The session needed more calls of the reader than it may have: the library is that of the commands that are whole in the bytes that were read, at
+-- least one byte for each call.
 pub record StopsReadingBytes (m : Meaning) (input : List ℕ) (before after : State) : Type 0 where
   pub read : List ℕ
   pub unread : List ℕ

@@ -1,5 +1,5 @@
--- The plain session: the replies to the commands of a stream of bytes. It is a relation, as what compiling and running give is told by
--- relations; where each of these gives one thing, so does a session.
+-- The plain session: the replies to the commands of a stream of bytes. It is a relation, as the results of compiling and running are; if each of
+-- these is unique, so is a session.
 use Rattle.std.specs.Prelude.{ℕ, ◌≡◌, zero, suc, Bool, true, false, ◌&&◌, List, [], ◌∷◌, ◌++◌, length, Option, Some, None, is_none}
 use Rattle.al_base.specs.Files.{Texts, with_file, without_file, with_renamed, put_refusal, delete_refusal, rename_refusal}
 use Rattle.al_base.specs.declared.refusal.Refusal.{Refusal}
@@ -22,7 +22,7 @@ abbrev pub IsRunReply : Meaning → ℕ → Option LastBuild → Option Refusal 
 IsRunReply m steps built None reply = (run : RunResult) × IsRunOf m.library.runs m.tick steps built run × (reply ≡ run_reply run)
 IsRunReply m steps built (Some refusal) reply = reply ≡ refused refusal
 
--- the reply where there is memory enough, and the library after it
+-- the reply if there is enough memory, and the library after it
 abbrev pub IsPlain : Meaning → State → Command → List ℕ → State → Type 0
 IsPlain m state (Put name text) reply after = IsEdited state (put_refusal state.now name (length text)) (with_file state.now name text) reply after
 IsPlain m state (Delete name) reply after = IsEdited state (delete_refusal state.now name) (without_file state.now name) reply after
@@ -37,7 +37,7 @@ IsPlain m state Quit reply after = (reply ≡ []) × (after ≡ state)
 IsPlain m state Bad reply after = (reply ≡ refused BadCommand) × (after ≡ state)
 IsPlain m state BadLength reply after = (reply ≡ refused BadLengthRefusal) × (after ≡ state)
 
--- where a command may find no memory: not at a refusal, a delete, a report of what the last build gave or a quit
+-- the commands that can run out of memory: not those that are refused, deletes, reports about the last build, and quit
 abbrev pub may_lack_memory : State → Command → Bool
 may_lack_memory state (Put name text) = is_none (put_refusal state.now name (length text))
 may_lack_memory state (Rename old new) = is_none (rename_refusal state.now old new)
@@ -47,12 +47,12 @@ may_lack_memory state ReportUnits = true
 may_lack_memory state ReportObsolete = is_none (obsolete_refusal state.built)
 may_lack_memory state other = false
 
--- a command that finds no memory changes nothing
+-- a command that runs out of memory changes nothing
 abbrev pub IsAnswerWhere : Meaning → Bool → State → Command → List ℕ → State → Type 0
 IsAnswerWhere m true state command reply after = (reply ≡ refused NoMemory) × (after ≡ state)
 IsAnswerWhere m false state command reply after = IsPlain m state command reply after
 
--- a command that is marked finds no memory, where it may lack it
+-- a marked command runs out of memory, if it can
 abbrev pub IsAnswer : Meaning → Bool → State → Command → List ℕ → State → Type 0
 IsAnswer m marked state command reply after = IsAnswerWhere m (marked && may_lack_memory state command) state command reply after
 
@@ -65,11 +65,11 @@ pub record Outcome : Type 0 where
 abbrev pub over : State → Outcome
 over state = record { replies = []; state = state; ended = ended.Quit }
 
--- these replies, and then those of the rest
+-- these replies, and then those to the other commands
 abbrev pub prepend : List ℕ → Outcome → Outcome
 prepend replies rest = record rest { replies = replies ++ rest.replies }
 
--- what a session is whose first command has this reply and leaves this library and these bytes
+-- a session whose first command has this reply and leaves this library and these bytes
 abbrev pub GoesOnAs : (State → List ℕ → Outcome → Type 0) → Command → List ℕ → State → List ℕ → Outcome → Type 0
 GoesOnAs go Quit reply after rest all = all ≡ record { replies = reply; state = after; ended = ended.Quit }
 GoesOnAs go BadLength reply after rest all = all ≡ record { replies = reply; state = after; ended = ended.BadLength }
@@ -87,9 +87,8 @@ abbrev pub other_marks : List Bool → List Bool
 other_marks [] = []
 other_marks (marked ∷ marks) = marks
 
--- The session over these bytes, of so many commands at most, with a mark for each command that finds no memory: it has these replies,
--- leaves this library and ends so. Where at_end is false, the bytes are the front of a longer input, and only commands that stand whole
--- count.
+-- The session over these bytes, of at most so many commands, with a mark for each command that runs out of memory: it has these replies, leaves this
+-- library and ends so. If at_end is false, the bytes are a prefix of a longer input, and only whole commands count.
 unfoldable pub IsSession : Meaning → Bool → ℕ → State → List Bool → List ℕ → Outcome → Type 0
 IsSession m at_end zero state marks bytes all = all ≡ over state
 IsSession m at_end (suc n) state marks bytes all =

@@ -20,13 +20,18 @@ use std::alloc::Global;
 /// The reply to a command, and whether the session ends with it.
 #[derive(Drop)]
 pub struct Acted {
+    /// The reply.
     pub reply: Reply,
+    /// How the session ends, if it ends with the command.
     pub ended: Option<Ended>,
     /// Whether the input ended with the command.
     pub is_last: bool,
 }
 
-/// Reads a command and carries it out, if there is one.
+/// Reads a command and carries it out, if there is one. A run has a tick of the clock after each `tick` instructions.
+///
+/// # Errors
+/// [`Device::Read`] if a pull fails, or no pull is left; the library is then as before.
 pub fn act<S: Source, L: UnitLibrary>(
     alloc: Global,
     source: &mut S,
@@ -75,7 +80,7 @@ pub fn act<S: Source, L: UnitLibrary>(
     }
 }
 
-// Reads the text of a put and carries it out.
+// Reads the bytes of a put and carries it out.
 fn act_on_text<S: Source, L: UnitLibrary>(
     alloc: Global,
     source: &mut S,

@@ -1,4 +1,4 @@
-// What a library answers to one command.
+// The answer of a library to one command.
 ghost use Rattle.std.specs.Prelude.{◌≡◌, ℕ, ◌≤◌, List, length, IsTrue, map, false, true};
 ghost use Rattle.std.specs.Char.{to_ascii_lowercase};
 ghost use Rattle.al_session_served.specs.Lines.{Put, Delete, Rename, Build, Run, ReportUnits, ReportObsolete, HasFewSteps};
@@ -41,7 +41,7 @@ pub fn answer<L: UnitLibrary>(
     }
 }
 
-/// Puts a text that was read, if it was kept.
+/// Puts the bytes that were read, if they were kept.
 pub fn put<L: UnitLibrary>(library: &mut L, name: &[u8], len: usize, text: Text) -> Reply
     requires kept { IsTrue text.kept → length text.bytes.items ≡ len }
     ensures { (tick : ℕ) (bytes : List ℕ) → length bytes ≡ len → (IsTrue text.kept → text.bytes.items ≡ bytes)

@@ -1,4 +1,4 @@
-// What a line says.
+// Command lines.
 ghost use Rattle.std.specs.Prelude.{◌≡◌, ◌&&◌, ◌+◌, ◌*◌, ◌^◌, ◌≤◌, ◌<◌, [], ◌∷◌, nat_le, position, ◌==◌, if◌then◌else◌};
 ghost use Rattle.std.specs.List.{list_all};
 ghost use Rattle.std.specs.Option.{option_map};
@@ -9,38 +9,42 @@ ghost use Rattle.al_session_served.specs.LineSeen.{line_model};
 use crate::subject::ReportKind;
 use al_base::is_unit_name;
 
-/// What a line says.
+/// A command line.
 pub enum Line<'a> {
-    /// A text of so many bytes for a file follows.
+    /// A put: so many bytes for a file follow.
     Put(&'a [u8], usize),
-    /// The length is malformed.
+    /// A put whose length is malformed.
     BadPut,
+    /// A command that is one line, or an unknown one.
     Whole(OneLine<'a>),
 }
 
 /// A command that is one line.
 pub enum OneLine<'a> {
+    /// A delete of the file with this name.
     Delete(&'a [u8]),
     /// The old name, and the new one.
     Rename(&'a [u8], &'a [u8]),
     /// The main unit, in any case of its letters.
     Build(&'a [u8]),
-    /// At most so many events.
+    /// A run of at most so many events.
     Run(u64),
-    /// Of the last build.
+    /// A report about the last build.
     Report(ReportKind),
-    /// Of the files and their units.
+    /// A report about the files and their units.
     ReportUnits,
-    /// Of the units that are obsolete since the last build.
+    /// A report about the units that are obsolete since the last build.
     ReportObsolete,
+    /// The end of the session.
     Quit,
+    /// No command.
     Bad,
 }
 
-/// The most bytes of a line.
+/// The greatest length of a line, in bytes.
 const LONGEST: usize = 600;
 
-/// Reads a line, without its line end.
+/// Parses a line, without its line end.
 #[tactic(auto, unfolding(crate::specs::Lines::line_of))]
 pub fn line_of(line: &[u8]) -> Line<'_>
     ensures says { line_model result ≡ line_of line.now }
@@ -154,7 +158,7 @@ fn put_line<'a>(name: &'a [u8], len: &[u8]) -> Line<'a>
     }
 }
 
-// The value of one to so many digits.
+// The value of a numeral of one to `most` digits.
 #[tactic(auto, unfolding(crate::specs::Lines::is_numeral))]
 fn numeral(word: &[u8], most: usize) -> Option<u64>
     requires { most ≤ 10 }
@@ -176,7 +180,7 @@ fn are_digits(word: &[u8]) -> bool
     word.iter().all(|b| (b'0'..=b'9').contains(b))
 }
 
-// What stands before the first such byte, and what stands after it.
+// What precedes the first such byte, and what follows it.
 fn cut_at(bytes: &[u8], byte: u8) -> Option<(&[u8], &[u8])>
     ensures { option_map (λ cut. (cut.0.now, cut.1.now)) result ≡ cut_at byte bytes.now }
 {

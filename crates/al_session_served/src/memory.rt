@@ -8,12 +8,11 @@ use crate::serving::serve;
 use al_session_stream::{Bytes, Counted, Device};
 use std::alloc::Global;
 
-/// The replies to the commands of these bytes, of which some may find no memory. The library is that after all of them.
+/// The replies to the commands in these bytes. A command that runs out of memory has a reply too. The library is as after all of them.
 ///
 /// # Errors
-/// [`Device::Read`] where the session wants more calls of a reader than it may have, which 2,147,483,648 bytes at least can make: the
-/// library is that after the commands that stand whole in what was read. [`Device::Write`] where memory for a reply is refused: the
-/// library is that after its command.
+/// [`Device::Read`] if the session needs more calls of a reader than it may have, which at least 2,147,483,648 bytes can make: the library is as
+/// after the commands that were read completely. [`Device::Write`] if memory for a reply is refused: the library is as after its command.
 pub fn serve_bytes<L: UnitLibrary>(
     alloc: Global,
     library: &mut L,

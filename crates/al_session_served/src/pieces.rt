@@ -1,4 +1,4 @@
-// The lines of replies, which are written piece by piece and take no memory.
+// The lines of replies, written piece by piece without memory.
 ghost use Rattle.std.specs.Prelude.{◌≡◌, ◌-◌, ◌^◌, ◌<◌, IsOk, map};
 ghost use Rattle.std.specs.List.{flat_map};
 ghost use Rattle.al_base.specs.Batch.{finding_of, key_of};
@@ -16,6 +16,9 @@ use al_bind::{Line, Reason};
 use al_session_stream::{Device, Sink, emit, emit_number};
 
 /// Writes that a command is refused, with the number and the word of the refusal.
+///
+/// # Errors
+/// As for `emit`.
 pub fn emit_refusal<K: Sink>(
     so_far: Result<(), Device>,
     writer: &mut K,
@@ -53,6 +56,9 @@ fn emit_finding<K: Sink>(
 }
 
 /// Writes a line for each diagnostic.
+///
+/// # Errors
+/// As for `emit`.
 pub fn emit_findings<K: Sink>(
     mut so_far: Result<(), Device>,
     writer: &mut K,
@@ -93,7 +99,7 @@ fn emit_key<K: Sink>(
     emit(so_far, writer, kind_word(key.kind))
 }
 
-// .. as a line.
+// Writes UNIT KIND as a line.
 fn emit_key_line<K: Sink>(
     so_far: Result<(), Device>,
     writer: &mut K,
@@ -108,6 +114,9 @@ fn emit_key_line<K: Sink>(
 }
 
 /// Writes a line for each unit.
+///
+/// # Errors
+/// As for `emit`.
 pub fn emit_keys<K: Sink>(
     mut so_far: Result<(), Device>,
     writer: &mut K,
@@ -152,6 +161,9 @@ fn emit_cycle_line<K: Sink>(
 }
 
 /// Writes the lines of a cycle.
+///
+/// # Errors
+/// As for `emit`.
 pub fn emit_cycle_lines<K: Sink>(
     mut so_far: Result<(), Device>,
     writer: &mut K,
@@ -190,6 +202,9 @@ fn emit_file_line<K: Sink>(
 }
 
 /// Writes a line for each file.
+///
+/// # Errors
+/// As for `emit`.
 pub fn emit_file_lines<K: Sink>(
     mut so_far: Result<(), Device>,
     writer: &mut K,
@@ -215,7 +230,7 @@ fn exception_word(exception: Exception) -> &'static [u8]
     }
 }
 
-// Writes the line of a text, where it is known.
+// Writes the line number of a raised exception, if it is known.
 fn emit_line<K: Sink>(
     so_far: Result<(), Device>,
     writer: &mut K,
@@ -232,7 +247,7 @@ fn emit_line<K: Sink>(
     emit_number(so_far, writer, line as usize)
 }
 
-// Writes that an exception ended a run, in the code of which unit, and on which line of its text.
+// Writes that an exception ended a run, the unit whose code raised it, and the line of its source.
 fn emit_raised<K: Sink>(
     so_far: Result<(), Device>,
     writer: &mut K,
@@ -270,7 +285,10 @@ fn emit_end<K: Sink>(so_far: Result<(), Device>, writer: &mut K, end: &RunEnd) -
     }
 }
 
-/// Writes what a run put out, and how it ended.
+/// Writes the output of a run, and how it ended.
+///
+/// # Errors
+/// As for `emit`.
 pub fn emit_ran<K: Sink>(
     so_far: Result<(), Device>,
     writer: &mut K,

@@ -1,4 +1,4 @@
-// The replies to builds and reports, as the last build gives them.
+// The replies to builds and reports, from the last build.
 ghost use Rattle.std.specs.Prelude.{◌≡◌, ◌-◌, ◌^◌, ◌<◌, false, IsOk, OnOk, map, codes, length};
 ghost use Rattle.al_base.specs.Batch.{finding_of, key_of};
 ghost use Rattle.al_bind.specs.Binding.{line_model};
@@ -19,7 +19,7 @@ use al_base::{Diagnostic, Name, Refusal, UnitKey};
 use al_bind::Line;
 use al_session_stream::{Device, Sink, emit, emit_hex, emit_number, finish};
 
-// A word and the number of diagnostics, and a line for each.
+// Writes a word, the number of diagnostics, and a line for each.
 fn emit_diagnostics<K: Sink>(
     so_far: Result<(), Device>,
     writer: &mut K,
@@ -36,7 +36,7 @@ fn emit_diagnostics<K: Sink>(
     emit_findings(so_far, writer, diagnostics)
 }
 
-// A word and the number of units, and a line for each.
+// Writes a word, the number of units, and a line for each.
 fn emit_order<K: Sink>(
     so_far: Result<(), Device>,
     writer: &mut K,
@@ -53,7 +53,7 @@ fn emit_order<K: Sink>(
     emit_keys(so_far, writer, order)
 }
 
-// A word and the number of files, and a line for each.
+// Writes a word, the number of files, and a line for each.
 fn emit_units<K: Sink>(
     so_far: Result<(), Device>,
     writer: &mut K,
@@ -102,7 +102,7 @@ fn emit_built<K: Sink>(
     emit(so_far, writer, b"\n")
 }
 
-// What a partition lacks, and the name of the unit.
+// Writes what is missing in a partition, and the name of the unit.
 fn emit_lack<K: Sink>(
     so_far: Result<(), Device>,
     writer: &mut K,
@@ -118,7 +118,7 @@ fn emit_lack<K: Sink>(
     emit(so_far, writer, b"\n")
 }
 
-// A word and the number of a cycle's lines, and these lines.
+// Writes a word, the number of a cycle's lines, and these lines.
 fn emit_cycle<K: Sink>(
     so_far: Result<(), Device>,
     writer: &mut K,
@@ -135,7 +135,7 @@ fn emit_cycle<K: Sink>(
     emit_cycle_lines(so_far, writer, lines)
 }
 
-// The reply to the build that gave this.
+// Writes the reply to a build with this outcome.
 fn emit_outcome<K: Sink>(
     so_far: Result<(), Device>,
     writer: &mut K,
@@ -157,7 +157,7 @@ fn emit_outcome<K: Sink>(
     }
 }
 
-// The diagnostics of the build that gave this.
+// Writes the diagnostics of a build with this outcome.
 fn report_diagnostics<K: Sink>(
     so_far: Result<(), Device>,
     writer: &mut K,
@@ -170,7 +170,7 @@ fn report_diagnostics<K: Sink>(
     emit_diagnostics(so_far, writer, b"diagnostics ", outcome.findings())
 }
 
-// The order of the build that gave this.
+// Writes the order of a build with this outcome.
 fn report_order<K: Sink>(
     so_far: Result<(), Device>,
     writer: &mut K,
@@ -186,7 +186,7 @@ fn report_order<K: Sink>(
     }
 }
 
-// The image of the build that gave this.
+// Writes the image of a build with this outcome.
 fn report_image<K: Sink>(
     so_far: Result<(), Device>,
     writer: &mut K,
@@ -202,7 +202,7 @@ fn report_image<K: Sink>(
     }
 }
 
-// A report of the build that gave this.
+// Writes a report about a build with this outcome.
 fn emit_report<K: Sink>(
     so_far: Result<(), Device>,
     writer: &mut K,
@@ -220,7 +220,10 @@ fn emit_report<K: Sink>(
     }
 }
 
-/// Writes a reply, and passes it on. What it tells of the library is written as the library holds it.
+/// Writes a reply, and passes it on. What it says of the library is written as the library holds it.
+///
+/// # Errors
+/// [`Device::Write`] if a push or the flush fails; a prefix of the reply is written then.
 pub fn write_reply<K: Sink, L: UnitLibrary>(
     writer: &mut K,
     library: &L,

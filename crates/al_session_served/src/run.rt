@@ -1,11 +1,14 @@
-// What a run gives.
+// The result of a run.
 use al_base::UnitKey;
 
-/// What a program can raise (ARM 11.1).
+/// An exception that a program can raise (ARM 11.1).
 #[derive(Clone, Copy)]
 pub enum Exception {
+    /// Constraint_Error.
     Constraint,
+    /// Program_Error.
     Program,
+    /// Storage_Error.
     Storage,
 }
 
@@ -16,11 +19,11 @@ pub enum RunEnd {
     Finished,
     /// Every task waits, and no step can be made.
     Idle,
-    /// The steps that were allowed are spent.
+    /// The allowed number of steps was reached.
     Spent,
-    /// The machine has no meaning for the next step.
+    /// The next step has no meaning in the machine.
     Stuck,
-    /// An exception was raised in the code of this unit, on this line of its text where that is known, and ended the run.
+    /// An exception was raised in the code of this unit, on this line of its source if that is known, and ended the run.
     Raised {
         exception: Exception,
         unit: UnitKey,
@@ -28,9 +31,11 @@ pub enum RunEnd {
     },
 }
 
-/// What a run put out, and how it ended.
+/// The output of a run, and how it ended.
 #[derive(Drop)]
 pub struct RunReport {
+    /// The bytes that it put.
     pub output: Vec<u8>,
+    /// How it ended.
     pub ended: RunEnd,
 }

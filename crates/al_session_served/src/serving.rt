@@ -16,12 +16,16 @@ use std::alloc::Global;
 pub enum Ended {
     /// By `quit`, at the end of the input, or after as many commands as a session may have.
     Quit,
-    /// By a text that isn't there as announced.
+    /// By a put whose bytes aren't there as announced.
     BadLength,
 }
 
-/// Carries out the commands that the reader gives, at most so many and with at most so many pulls, and writes
-/// their replies. A run has a tick of the clock after each `tick` instructions.
+/// Carries out the commands that the reader gives, at most `commands` of them and with at most `pulls` pulls, and writes their replies. A run has a
+/// tick of the clock after each `tick` instructions.
+///
+/// # Errors
+/// [`Device::Read`] if a pull fails or none is left: all commands that were read completely are answered. [`Device::Write`] if a push or a flush
+/// fails: a prefix of the replies is written.
 pub fn serve_within<S: Source, K: Sink, L: UnitLibrary>(
     alloc: Global,
     reader: &mut S,
@@ -37,7 +41,7 @@ pub fn serve_within<S: Source, K: Sink, L: UnitLibrary>(
     requires some { 1 ≤ tick }
     requires few { tick ≤ 10000 }
 
-    // What is written is the replies to what is read, and nothing else; and no more is read than they want.
+    // What is written is the replies to what is read, and nothing else. No more is read than the commands need.
     ensures served { IfOk result (Serves (with_tick L.meaning tick) commands (source_moment S.ahead S.faults S.pulls reader.old) (source_moment S.ahead S.faults S.pulls reader.new)
         (sink_moment K.written K.faults K.waits writer.old) (sink_moment K.written K.faults K.waits writer.new) (L.state library.old) (L.state library.new)) }
 
@@ -69,7 +73,10 @@ pub const MAX_COMMANDS: u64 = 1_000_000;
 /// The most calls of a reader in a session.
 pub const MAX_PULLS: u64 = 1 << 31;
 
-/// `serve_within`, with the bounds of a session.
+/// Serves a session as [`serve_within`] does, with at most [`MAX_COMMANDS`] commands and [`MAX_PULLS`] pulls.
+///
+/// # Errors
+/// As for [`serve_within`].
 pub fn serve<S: Source, K: Sink, L: UnitLibrary>(
     alloc: Global,
     reader: &mut S,

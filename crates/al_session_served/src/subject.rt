@@ -1,9 +1,12 @@
-// What a report speaks of.
+// The subjects of reports.
 
-/// Which part of the last build a report prints.
+/// The part of the last build that a report prints.
 #[derive(Clone, Copy)]
 pub enum ReportKind {
+    /// The diagnostics.
     Diagnostics,
+    /// The elaboration order.
     Order,
+    /// The image.
     Image,
 }

@@ -30,12 +30,12 @@ emits start mid new before piece (Err d) adds wrote = (
   λ none passed. wrote.5 (right-nil before wrote.0 none) (adds.2 (left-nil before wrote.0 none) passed),
 )
 
--- nothing more after a fault
+-- nothing more is written after a failure
 pub stays : (start now : SinkMoment) (before piece : List ℕ) (r : Result (Unit {0}) Device) → is_err r ≡ true → WritesReply start now before r → WritesReply start now (before ++ piece) r
 stays start now before piece (Ok x) e wrote = cc
 stays start now before piece (Err d) e wrote = (wrote.0, (wrote.1.0 ++ piece, ap (λ b. b ++ piece) wrote.1.1 ∙ append_assoc wrote.0 wrote.1.0 piece), wrote.2, wrote.3, wrote.4, wrote.5)
 
--- what was written without a fault
+-- what was written without a failure
 pub wrote_all : (start now : SinkMoment) (before : List ℕ) (r : Result (Unit {0}) Device) → is_err r ≡ false → WritesReply start now before r → Appends start.written now.written before × (now.faults ≡ start.faults) × (before ≡ [] → start.waits ≡ false → now.waits ≡ false)
 wrote_all start now before (Ok x) e wrote = wrote
 wrote_all start now before (Err d) e wrote = cc

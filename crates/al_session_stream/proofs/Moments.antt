@@ -44,7 +44,7 @@ append_then a b c xs ys h k = k ∙ ap (λ r. r ++ ys) h ∙ append_assoc a xs y
 pub reads_none : (m : Moment) → Reads m m [] 0
 reads_none m = record { adds = consumes_none m.ahead; no_fault = refl; counted = refl; few = omega arith }
 
--- the first bytes in the buffer are read where it lets go of them
+-- the first bytes in the buffer are read if it drops them
 pub reads_front : {S : Type 0} (ahead : S → Option (List ℕ)) (faults pulls : S → ℕ) (source : S) (old new : List ℕ × ℕ) (n : ℕ)
     → new.0 ≡ drop n old.0 → new.1 ≡ old.1 → Reads (moment ahead faults pulls source old) (moment ahead faults pulls source new) (take n old.0) 0
 reads_front ahead faults pulls source old new n rest left = record {

@@ -6,7 +6,7 @@ use Rattle.al_session_stream.specs.declared.device.Device.TheVariants.{Read}
 
 -- What is known of a reader at one moment.
 pub record SourceMoment : Type 0 where
-  -- the bytes still to come, where the reader tells them
+  -- the bytes still to come, if the reader's type says
   pub ahead : Option (List ℕ)
   -- how many pulls have failed
   pub faults : ℕ
@@ -18,7 +18,7 @@ source_moment ahead faults pulls source = record { ahead = ahead source; faults 
 
 -- What is known of a reader and of the buffer before it.
 pub record Moment : Type 0 where
-  -- the bytes still to come, where the reader tells them: those held in the buffer, and then the reader's
+  -- the bytes still to come, if the reader's type says: those held in the buffer, and then the reader's
   pub ahead : Option (List ℕ)
   -- those in the buffer
   pub held : List ℕ
@@ -60,7 +60,7 @@ pub record Spends (old new : Moment) (count : ℕ) : Type 0 where
   pub none_left : new.left ≡ 0
   pub few : new.pulls ≤ old.pulls + count
 
--- these bytes are read, and then the reader fails, or one more pull is wanted and none is left; nothing stays in the buffer
+-- these bytes are read, and then the reader fails, or one more pull is needed and none is left; nothing stays in the buffer
 pub record Stops (old new : Moment) (bytes : List ℕ) : Type 0 where
   pub adds : Consumes old.ahead new.ahead bytes
   pub none_held : new.held ≡ []

@@ -10,7 +10,7 @@ IsFront front whole = (rest : List ℕ) × (whole ≡ front ++ rest)
 
 -- What is known of a writer at one moment.
 pub record SinkMoment : Type 0 where
-  -- the bytes that were written, where the writer tells them
+  -- the bytes that were written, if the writer's type says
   pub written : Option (List ℕ)
   -- how many pushes and flushes have failed
   pub faults : ℕ
@@ -20,13 +20,12 @@ pub record SinkMoment : Type 0 where
 abbrev pub sink_moment : {W : Type 0} → (W → Option (List ℕ)) → (W → ℕ) → (W → Bool) → W → SinkMoment
 sink_moment written faults waits writer = record { written = written writer; faults = faults writer; waits = waits writer }
 
--- All of the bytes are written, or a prefix of them before a fault. Where none is written, no more is held back than before.
+-- All of the bytes are written, or a prefix of them before a failure. If no byte is written, no more is held back than before.
 abbrev pub WritesReply : {T : Type 0} → SinkMoment → SinkMoment → List ℕ → Result T Device → Type 0
 WritesReply old new reply (Ok x) = Appends old.written new.written reply × (new.faults ≡ old.faults) × (reply ≡ [] → old.waits ≡ false → new.waits ≡ false)
 WritesReply old new reply (Err fault) = (part : List ℕ) × IsFront part reply × Appends old.written new.written part × (new.faults ≡ old.faults + 1) × (fault ≡ Write) × (part ≡ [] → old.waits ≡ false → new.waits ≡ false)
 
--- What it is to write one more piece of a reply: whatever was written before, the piece is written after it, or a prefix
--- of both before a fault.
+-- One more piece of a reply is written: whatever was written before, the piece comes after it, or a prefix of both comes before a failure.
 abbrev pub Adds : {W : Type 0} → (W → Option (List ℕ)) → (W → ℕ) → (W → Bool) → W → W → Result (Unit {0}) Device → Result (Unit {0}) Device → List ℕ → Type 0
 Adds written faults waits old new so_far result piece =
     (start : SinkMoment) (before : List ℕ) →

@@ -37,6 +37,7 @@ impl Model for Buffer {
 }
 
 impl Buffer {
+    /// A buffer that holds no bytes, and allows `pulls` pulls.
     pub fn new(pulls: u64) -> Self
         ensures { result ≡ ([], pulls) }
     {
@@ -110,7 +111,7 @@ impl Buffer {
         &self.bytes[self.start..self.end]
     }
 
-    // Lets go of the first bytes that are held.
+    // Drops the first `count` of the bytes that are held.
     pub(crate) fn skip(&mut self, count: usize)
         requires { count ≤ length self.old.0 }
         ensures rest { self.new.0 ≡ drop count self.old.0 }
@@ -120,6 +121,9 @@ impl Buffer {
     }
 
     /// The next byte of the input, or none at its end.
+    ///
+    /// # Errors
+    /// [`Device::Read`] if a pull is needed and fails, or none is left.
     pub fn next<S: Source>(&mut self, source: &mut S) -> Result<Option<u8>, Device>
         requires faults { S.faults source.old < 2 ^ 64 - 1 }
         requires pulls { S.pulls source.old + self.old.1 < 2 ^ 64 }

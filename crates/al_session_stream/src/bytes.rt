@@ -1,9 +1,9 @@
-// Bytes in memory as a reader.
+// A reader of bytes in memory.
 ghost use Rattle.std.specs.Prelude.{◌≡◌};
 
 use crate::device::{Fault, Source};
 
-/// Bytes in memory, which are read without a fault, with a count of the calls.
+/// A reader of bytes in memory. It never fails, and counts its calls.
 #[derive(Drop)]
 pub struct Bytes<'a> {
     rest: &'a [u8],
@@ -11,6 +11,7 @@ pub struct Bytes<'a> {
 }
 
 impl<'a> Bytes<'a> {
+    /// A reader of these bytes that has not been called.
     pub fn new(bytes: &'a [u8]) -> Self
         ensures { result ≡ record { rest = bytes.entry; calls = 0 } }
     {

@@ -1,4 +1,4 @@
-// Where the commands come from, and where the replies go.
+// The reader of commands, and the writer of replies.
 ghost use Rattle.std.specs.Prelude.{◌≡◌, ℕ, ◌+◌, ◌-◌, ◌^◌, ◌<◌, ◌≤◌, Bool, false, List, Option, IfOk, OnErr, OnOk, length};
 ghost use Rattle.std.specs.Io.{ReadsAtMost, WritesAtMost};
 ghost use Rattle.std.specs.Io.KnownBytes.{ReadConsumes, WriteAppends, Keeps};
@@ -21,9 +21,9 @@ pub enum Device {
     Write,
 }
 
-/// Where commands come from.
+/// A reader of commands.
 pub trait Source {
-    /// The bytes that pulls will give from here on, where the type says.
+    /// The bytes that pulls will give from here on, if the type says.
     ghost ahead: { Self → Option (List ℕ) };
 
     /// How many pulls have failed.
@@ -32,7 +32,10 @@ pub trait Source {
     /// How many pulls there have been.
     ghost pulls: { Self → ℕ };
 
-    /// Reads some bytes into the front of the buffer, and none only at the end of the input.
+    /// Reads some bytes to the beginning of the buffer, at least one unless the buffer is empty or the input has ended. Gives how many.
+    ///
+    /// # Errors
+    /// [`Fault`] if the call fails; no byte is consumed then.
     fn pull(&mut self, buffer: &mut [u8]) -> Result<usize, Fault>
         requires room { pulls self.old < 2 ^ 64 - 1 }
         requires below { faults self.old < 2 ^ 64 - 1 }
@@ -42,18 +45,21 @@ pub trait Source {
         ensures counted { pulls self.new ≡ pulls self.old + 1 };
 }
 
-/// Where replies go.
+/// A writer of replies.
 pub trait Sink {
-    /// The bytes that were written, where the type says.
+    /// The bytes that were written, if the type says.
     ghost written: { Self → Option (List ℕ) };
 
     /// How many pushes and flushes have failed.
     ghost faults: { Self → ℕ };
 
-    /// Whether something of what was written may be held back still.
+    /// Whether some of what was written may still be held back.
     ghost waits: { Self → Bool };
 
-    /// Writes a front of the bytes, which is empty only if they are.
+    /// Writes a prefix of the bytes, at least one if there is any. Gives how many.
+    ///
+    /// # Errors
+    /// [`Fault`] if the call fails; no byte is written then, and what was held back still is.
     fn push(&mut self, bytes: &[u8]) -> Result<usize, Fault>
         requires { faults self.old < 2 ^ 64 - 1 }
         ensures bound { WritesAtMost result bytes.now }
@@ -63,6 +69,9 @@ pub trait Sink {
         ensures fault { CountsFault (faults self.old) (faults self.new) result };
 
     /// Passes on what was written and is held back.
+    ///
+    /// # Errors
+    /// [`Fault`] if the call fails; what was held back still is.
     fn flush(&mut self) -> Result<(), Fault>
         requires { faults self.old < 2 ^ 64 - 1 }
         ensures bytes { Keeps (written self.old) (written self.new) }
@@ -81,6 +90,7 @@ pub struct Counted<D> {
 }
 
 impl<D> Counted<D> {
+    /// A device over this reader or writer that has not been called.
     pub fn new(inner: D) -> Self
         ensures { result ≡ record { inner = inner; faults = 0; calls = 0; waits = false } }
     {
@@ -92,6 +102,7 @@ impl<D> Counted<D> {
         }
     }
 
+    /// The reader or writer of std.
     pub fn into_inner(self) -> D
     where
         D: Drop,

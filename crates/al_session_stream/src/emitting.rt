@@ -9,8 +9,11 @@ use itoa::Buffer;
 
 /// Writes one more piece, unless an earlier piece failed: then nothing more is written.
 ///
-/// `so_far` is the result of the pieces before it, so a caller chains the calls and looks at the last result alone.
-/// Whatever was written before, this is a whole or a front of all pieces in a row.
+/// `so_far` is the result of the pieces before it, so a caller chains the calls and looks only at the last result. What the calls wrote is all the
+/// pieces in a row, or a prefix of them.
+///
+/// # Errors
+/// The error in `so_far`, if there is one; else [`Device::Write`] if a push fails. A prefix of the pieces is written then.
 pub fn emit<K: Sink>(so_far: Result<(), Device>, writer: &mut K, piece: &[u8]) -> Result<(), Device>
     requires { IsOk so_far → K.faults writer.old < 2 ^ 64 - 1 }
     ensures faults { IsOk result → IsOk so_far × (K.faults writer.new ≡ K.faults writer.old) }
@@ -23,6 +26,9 @@ pub fn emit<K: Sink>(so_far: Result<(), Device>, writer: &mut K, piece: &[u8]) -
 }
 
 /// Ends a reply: passes on what the writer holds back of it, unless a piece failed.
+///
+/// # Errors
+/// The error in `so_far`, if there is one; else [`Device::Write`] if the flush fails.
 pub fn finish<K: Sink>(so_far: Result<(), Device>, writer: &mut K) -> Result<(), Device>
     requires { IsOk so_far → K.faults writer.old < 2 ^ 64 - 1 }
     ensures adds { Adds K.written K.faults K.waits writer.old writer.new so_far result [] }
@@ -36,6 +42,9 @@ pub fn finish<K: Sink>(so_far: Result<(), Device>, writer: &mut K) -> Result<(),
 }
 
 /// Writes a number in decimal digits, as [`emit`] writes a piece.
+///
+/// # Errors
+/// As for [`emit`].
 pub fn emit_number<K: Sink>(
     so_far: Result<(), Device>,
     writer: &mut K,
@@ -72,8 +81,11 @@ fn emit_hex_line<K: Sink>(
     emit(so_far, writer, &text[..end + 1])
 }
 
-/// Writes bytes in hexadecimal digits of lower case, 32 bytes on a line, as [`emit`] writes a piece. Each line has a
-/// line end, and no bytes give no line.
+/// Writes bytes in hexadecimal digits of lower case, 32 bytes on a line, as [`emit`] writes a piece. Each line has a line end, and no bytes give no
+/// line.
+///
+/// # Errors
+/// As for [`emit`].
 pub fn emit_hex<K: Sink>(
     mut so_far: Result<(), Device>,
     writer: &mut K,

@@ -1,4 +1,4 @@
-// Reading of lines and texts.
+// Reading of lines, and of blocks of known length.
 ghost use Rattle.std.specs.Prelude.{◌≡◌, ◌+◌, ◌-◌, ◌^◌, ◌<◌, ◌≤◌, ◌++◌, [], ◌∷◌, length, vec_capacity, IsTrue, false};
 ghost use Rattle.al_session_stream.specs.Input.{moment};
 ghost use Rattle.al_session_stream.specs.Reading.{ReadsLine, ReadsBlock, ReadsText};
@@ -8,11 +8,11 @@ use crate::device::{Device, Source};
 use crate::kept::KeptLine;
 use std::alloc::Global;
 
-/// Reads a line and the line end after it, and says whether there was one: only the last line of the input may lack
-/// it. Of a line of more than 601 bytes the first 601 are kept, so that a caller can tell that it is too long.
+/// Reads a line and the line end after it, and says whether there was one: only the last line of the input may lack it. If a line has more than 601
+/// bytes, the first 601 are kept, so a caller can see that it is too long.
 ///
 /// # Errors
-/// [`Device::Read`] where a pull fails, or where no pull is left.
+/// [`Device::Read`] if a pull fails, or no pull is left.
 pub fn read_line<S: Source>(
     source: &mut S,
     buffer: &mut Buffer,
@@ -33,16 +33,18 @@ pub fn read_line<S: Source>(
     Ok(false)
 }
 
-/// A text as it is read. `kept` says that the bytes are all there; it falls where memory is refused, and nothing is
-/// kept from then on.
+/// A block of bytes as it is read. `kept` says that all its bytes are there. It becomes false if memory is refused, and nothing is kept from then
+/// on.
 #[derive(Drop)]
 pub struct Text {
+    /// The bytes so far, if they are kept.
     pub bytes: Vec<u8>,
+    /// Whether all bytes so far are there.
     pub kept: bool,
 }
 
 impl Text {
-    /// No bytes yet. Whether they are to be kept is told; where they are not, no memory is taken.
+    /// No bytes so far. `kept` says whether they are to be kept; if not, no memory is taken.
     pub fn new(alloc: Global, kept: bool) -> Self
         ensures bytes { result.bytes.items ≡ [] }
         ensures kept { result.kept ≡ kept }
@@ -53,7 +55,7 @@ impl Text {
         }
     }
 
-    // Takes room for so many more bytes, where they are to be kept.
+    // Takes room for so many more bytes, if they are to be kept.
     fn reserve(&mut self, count: usize)
         ensures kept { IsTrue self.new.kept → IsTrue self.old.kept }
         ensures room { IsTrue self.new.kept → length self.new.bytes.items + count ≤ vec_capacity self.new.bytes }
@@ -76,7 +78,7 @@ impl Text {
     }
 }
 
-// Reads some bytes of a text, those that are held or come with one pull, and adds them to it.
+// Reads some bytes of a block, those that are held or come with one pull, and adds them to it.
 fn read_block<S: Source>(
     source: &mut S,
     buffer: &mut Buffer,
@@ -99,13 +101,13 @@ fn read_block<S: Source>(
     Ok(count)
 }
 
-/// Reads a text of `len` bytes and the line end after it, and says whether both are there. Where they are not, the
-/// input ends too early, or the byte after the text, which is then read too, is another.
+/// Reads a block of `len` bytes and the line end after it, and says whether both are there. If not, the input ends too early, or the byte after the
+/// block is another one; that byte has been read too.
 ///
-/// The text's bytes are added to `text` as long as memory lasts; where `text` keeps nothing, they are read and dropped.
+/// The bytes are added to `text` as long as memory lasts. If `text` keeps nothing, they are read and dropped.
 ///
 /// # Errors
-/// [`Device::Read`] where a pull fails, or where no pull is left.
+/// [`Device::Read`] if a pull fails, or no pull is left.
 pub fn read_text<S: Source>(
     source: &mut S,
     buffer: &mut Buffer,

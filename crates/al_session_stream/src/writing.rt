@@ -7,7 +7,7 @@ use crate::device::{Device, Sink};
 /// Writes all of the bytes, by as many pushes as it takes.
 ///
 /// # Errors
-/// [`Device::Write`] where a push fails: a prefix of the bytes is written then.
+/// [`Device::Write`] if a push fails: a prefix of the bytes is written then.
 pub fn write_all<K: Sink>(writer: &mut K, bytes: &[u8]) -> Result<(), Device>
     requires { K.faults writer.old < 2 ^ 64 - 1 }
     ensures { WritesReply (sink_moment K.written K.faults K.waits writer.old) (sink_moment K.written K.faults K.waits writer.new)

@@ -18,14 +18,14 @@ use Rattle.al_bind.proofs.BindLemmas.{order_within, shown_within, ties_within}
 use Rattle.al_bind.proofs.StepLemmas.{ordered_by, tells_edge, whole_tells}
 use Rattle.al_bind.proofs.binding.bound_by.Goals as goal
 
--- what is known of the answer of order_of_ties, where it counts as many nodes
+-- what is known of the answer of order_of_ties, if it counts as many nodes
 abbrev Bound : List Edge → ℕ → Result (Vec ℕ Global) (Vec Edge Global) → Type 0
 Bound edges count r = MatchResult r (λ order. IsOrdered (graph_from count edges) order.items) (λ shown. IsFault count edges shown.items)
 
 at_bound : (edges told : List Edge) (count size : ℕ) (r s : Result (Vec ℕ Global) (Vec Edge Global)) → told ≡ edges → size ≡ count → r ≡ s → Bound told size r → Bound edges count s
 at_bound edges told count size r s same sized is bound = subst (λ (ts : List Edge). Bound ts count s) same (subst (λ (n : ℕ). Bound told n s) sized (subst (λ (q : Result (Vec ℕ Global) (Vec Edge Global)). Bound told size q) is bound))
 
--- what the ties tell
+-- what the ties represent
 each_tells : (extent : Extent) (lib : Library) (main : List ℕ) (keys : List Key) (edges : List Edge) → ((t : Edge) → Contains edges t ↔ TellsWant lib main keys (WantsTold extent lib keys) t) → (t : Edge) → Contains edges t → TellsEdge lib main keys t
 each_tells extent lib main keys edges tells t c = tells_edge extent lib main keys t ((tells t).0 c)
 

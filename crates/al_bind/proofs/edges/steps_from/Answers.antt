@@ -12,7 +12,7 @@ use Rattle.al_bind.specs.declared.edges.Extent.TheVariants.{Steps}
 use Rattle.al_bind.proofs.TieLemmas.{listed_among}
 use Rattle.al_bind.proofs.edges.steps_from.Goals as goal
 
--- where not all are placed, all dependences are told
+-- if not all are placed, all dependences are listed
 told_all : {E : Type 0} (lib : Library) (keys : List Key) (p : Key) → ((k : Key) → Contains keys k → is_unit lib k ≡ true) → (ArePlaced lib keys (direct lib p) → ⊥) → (r : Result (Vec UnitKey Global) E) → IfOk r (λ those. ListsUnits lib (map key_of those.items) (DependsOn lib p)) → IfOk r (λ those. (y : Key) → Contains keys y → Contains (map key_of those.items) y ↔ IsTold Steps lib keys p y)
 told_all lib keys p units none (Ok those) lists = λ y c.
     let same = listed_among lib keys (map key_of those.items) (DependsOn lib p) lists units y c in

@@ -3,7 +3,7 @@ use Rattle.std.specs.List.{flat_map}
 use Rattle.al_session_stream.specs.Hexadecimal.{hex_of}
 use Rattle.al_session_stream.proofs.emitting.emit_hex_line.Given as goal
 
--- the digits of so many bytes stand in front
+-- the digits of so many bytes come first
 abbrev pub invariant-loop-i : goal.invariant-loop-i
 invariant-loop-i g l = record {
   size : length l.text ≡ 65;

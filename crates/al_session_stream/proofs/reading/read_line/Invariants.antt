@@ -3,7 +3,7 @@ use Rattle.al_session_stream.specs.Input.{moment, budget, Reads}
 use Rattle.al_session_stream.specs.Reading.{IsLine}
 use Rattle.al_session_stream.proofs.reading.read_line.Given as goal
 
--- what was read is the front of a line
+-- what was read is a prefix of a line
 abbrev pub invariant-loop-b : goal.invariant-loop-b
 invariant-loop-b g l = record {
   bytes : List ℕ;

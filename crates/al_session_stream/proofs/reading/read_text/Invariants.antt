@@ -2,7 +2,7 @@ use Rattle.std.proofs.Common.{◌≡◌, ℕ, ◌+◌, List, ◌++◌, length, I
 use Rattle.al_session_stream.specs.Input.{moment, Reads}
 use Rattle.al_session_stream.proofs.reading.read_text.Given as goal
 
--- so many bytes were read, and kept where there was memory
+-- so many bytes were read, and kept if there was memory
 abbrev pub invariant-loop-left : goal.invariant-loop-left
 invariant-loop-left g l = record {
   bytes : List ℕ;

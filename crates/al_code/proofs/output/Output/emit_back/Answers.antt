@@ -10,7 +10,7 @@ use Rattle.al_code.specs.Written.{Buffer, written}
 use Rattle.al_code.proofs.Writing.{written_none}
 use Rattle.al_code.proofs.output.Output.emit_back.Goals as goal
 
--- where nothing is written any more, any jump is as good
+-- if nothing is written any more, any jump is as good
 same_jump : (is_large : Bool) (b : Buffer) (w : Option Buffer) (start n distance : ℕ) → (if is_large then None else Some b) ≡ w → distance ≡ (length b.code - start) + 5 → IfSome w (λ c. length c.code ≡ start + n) → written w (Whole (instr.Jump (neg_ℤ (pos distance))) ∷ []) ≡ written w (back n ∷ [])
 same_jump true b w start n distance is far at =
     ap (λ (v : Option Buffer). written v (Whole (instr.Jump (neg_ℤ (pos distance))) ∷ [])) (sym is)
