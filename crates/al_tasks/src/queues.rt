@@ -1,7 +1,8 @@
 // Lists of tasks: the ready ones in the order of their dispatch, and the others by number.
-ghost use Rattle.std.specs.Prelude.{◌≡◌, ◌+◌, ◌<◌, ◌≤◌, ◌≡◌, nat_le, nat_lt, not, insert, vec_len, vec_capacity, length};
+ghost use Rattle.std.specs.Prelude.{ℤ, int_lt, true, false, ◌≡◌, ◌+◌, ◌<◌, ◌≤◌, ◌≡◌, nat_le, nat_lt, not, insert, vec_len, vec_capacity, length};
 ghost use Rattle.std.specs.List.{list_any, list_all};
-ghost use Rattle.al_tasks.specs.Task.{is_waiting, is_ended, is_delayed};
+ghost use Rattle.al_tasks.specs.Task.{is_waiting, is_ended, is_delayed, is_due};
+ghost use Rattle.al_tasks.specs.Bursts.{is_any_due};
 ghost use Rattle.al_tasks.specs.World.{at_head, at_tail, by_number, passing, failing, all_at_tail};
 ghost use Rattle.al_tasks.specs.Queues.{first_place, is_wanted};
 
@@ -158,6 +159,27 @@ pub(crate) fn has_delayed(paused: &[Task]) -> bool
         }
     }
     false
+}
+
+/// The earlier one of a moment and the one that a task is delayed to, if it is.
+fn sooner(moment: i64, pause: &Pause) -> i64
+    ensures { (clock : ℤ) → int_lt clock result ≡ true → (int_lt clock moment ≡ true) × (is_due clock pause.now ≡ false) }
+{
+    let Pause::Delayed(other) = pause else {
+        return moment;
+    };
+    moment.min(*other)
+}
+
+/// The earliest moment that a task is delayed to; without such a task the last of all moments.
+pub(crate) fn earliest(paused: &[Task]) -> i64
+    ensures { (clock : ℤ) → int_lt clock result ≡ true → is_any_due clock paused.now ≡ false }
+{
+    let mut least = i64::MAX;
+    for task in paused {
+        least = sooner(least, &task.pause);
+    }
+    least
 }
 
 /// Whether all tasks have ended.

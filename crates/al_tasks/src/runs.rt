@@ -4,12 +4,12 @@ ghost use Rattle.al_tasks.specs.Exclusion.{IsLaidOut};
 ghost use Rattle.al_tasks.specs.Fits.{Fits};
 ghost use Rattle.al_tasks.specs.Runs.{status_of, chosen, since_after, ran};
 ghost use Rattle.al_tasks.specs.declared.event.Status.TheVariants.{Going};
-ghost use Rattle.al_tasks.specs.Bursts.{WorksOn, went, later, ticks_in, left_in};
+ghost use Rattle.al_tasks.specs.Bursts.{WorksOn, IsQuiet, went, later, ticks_in, left_in};
 ghost use Rattle.al_tasks.specs.Seen.{seen};
 
 use crate::events::{next_clock, step};
 use crate::program::Program;
-use crate::queues::has_delayed;
+use crate::queues::{earliest, has_delayed};
 use crate::state::State;
 use crate::{Ending, Event, Status};
 use al_base::NoMemory;
@@ -93,7 +93,23 @@ fn ticks_between(n: u64, since: u64, done: u64) -> u64
     (since + done - 1) / n
 }
 
-/// Instructions on words of the running task, and the ticks between them, which move the clock alone where no task is paused. At most half as
+/// At most how many instructions come before a tick at which a task is due, since whose last tick so many came.
+fn most_before_due(state: &State, n: u64, since: u64) -> u64
+    requires { since < n }
+    ensures { (k : ℕ) → 0 < k → k ≤ result → IsQuiet (ticks_in n since k) state.now.clock state.now.paused.items }
+{
+    let moment = earliest(&state.paused);
+    let Some(ticks) = moment.checked_sub(state.clock) else {
+        return 0;
+    };
+    if ticks <= 0 {
+        return 0;
+    }
+    let rounds = (ticks as u64 - 1).min(1_073_741_824);
+    (n - since).min(1_073_741_824) + rounds * n.min(1_073_741_824)
+}
+
+/// Instructions on words of the running task, and the ticks between them, which move the clock alone as long as no task is due. At most half as
 /// many instructions as events are left, since each tick comes after one.
 fn turn_through(program: &Program, state: &mut State, n: u64, since: u64, most: u64) -> Turned
     requires fits { Fits program.now (seen state.old) }
@@ -101,14 +117,14 @@ fn turn_through(program: &Program, state: &mut State, n: u64, since: u64, most: 
     requires since { since < n }
     requires room { since + most < 2 ^ 64 }
     requires going { status_of (seen state.old) ≡ Going }
-    requires nobody { state.old.paused.items ≡ [] }
     ensures done { result.done ≤ most }
     ensures went { 1 ≤ result.done → went program.now n result.done (since, seen state.old) ≡ (result.since, seen state.new) }
     ensures few { 1 ≤ result.done → result.since ≤ since + result.done }
     ensures none { result.done ≡ 0 → seen state.new ≡ seen state.old }
     ensures fits { Fits program.now (seen state.new) }
 {
-    let done = work_on(program, state, (most / 2).min(1_073_741_824));
+    let before = most_before_due(state, n, since);
+    let done = work_on(program, state, (most / 2).min(before));
     if done == 0 {
         return Turned { done: 0, since };
     }
@@ -148,23 +164,9 @@ fn turn(
 {
     let event = chosen(state, n, since);
     if let Event::Instr = event {
-        if state.paused.is_empty() {
-            let turned = turn_through(program, state, n, since, most);
-            if turned.done > 0 {
-                return Ok(turned);
-            }
-            step(program, state, event)?;
-            return Ok(Turned {
-                done: 1,
-                since: since_after(since, event),
-            });
-        }
-        let done = work_on(program, state, (n - since).min(most));
-        if done > 0 {
-            return Ok(Turned {
-                done,
-                since: since + done,
-            });
+        let turned = turn_through(program, state, n, since, most);
+        if turned.done > 0 {
+            return Ok(turned);
         }
     }
     step(program, state, event)?;

@@ -116,7 +116,7 @@ returns-clause-went c =
     let clock = to_z-of_z w64 c.later-state.result fits in
     let fits2 : FitsSigned w64 c.work_on-done.new.state.clock = search rules in
     let from = to_z-of_z w64 c.work_on-done.new.state.clock fits2 in
-    λ _. rw (clock, c.later-state.ensures, from, e, left_is n k since some le) (works_through p n k since (seen c.args.state.now) (seen c.work_on-done.new.state) c.requires.going c.requires.nobody some more c.work_on-done.ensures.works)
+    λ _. rw (clock, c.later-state.ensures, from, e, left_is n k since some le) (works_through p n k since (seen c.args.state.now) (seen c.work_on-done.new.state) c.requires.going (c.most_before_due-before.ensures k more (let f = c.work_on-done.ensures.few in let m = c.min.ensures in grind (arith, nat_tests))) some more c.work_on-done.ensures.works)
 
 pub returns-clause-fits : goal.returns-clause-fits
 returns-clause-fits c =
