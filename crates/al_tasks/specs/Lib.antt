@@ -3,6 +3,7 @@ pub mod Bursts
 pub mod Exclusion
 pub mod Fits
 pub mod Levels
+pub mod Looking
 pub mod Partitions
 pub mod Programs
 pub mod Queues

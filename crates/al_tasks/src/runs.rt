@@ -33,7 +33,7 @@ pub(crate) fn status_of(state: &State) -> Status
 }
 
 /// Which event a run has next, with a tick after every n instructions, since whose last tick so many came.
-fn chosen(state: &State, n: u64, since: u64) -> Event
+pub(crate) fn chosen(state: &State, n: u64, since: u64) -> Event
     ensures { result ≡ chosen n since (seen state.now) }
 {
     if state.ready.is_empty() || n <= since {
@@ -44,7 +44,7 @@ fn chosen(state: &State, n: u64, since: u64) -> Event
 }
 
 /// How many instructions came since the last tick.
-fn since_after(since: u64, event: Event) -> u64
+pub(crate) fn since_after(since: u64, event: Event) -> u64
     requires { since + 1 < 2 ^ 64 }
     ensures { result ≡ since_after since event }
 {
@@ -56,7 +56,7 @@ fn since_after(since: u64, event: Event) -> u64
 
 /// Instructions on words of the running task, at most so many; how many were carried out.
 #[inline(never)]
-fn work_on(program: &Program, state: &mut State, most: u64) -> u64
+pub(crate) fn work_on(program: &Program, state: &mut State, most: u64) -> u64
     requires { Fits program.now (seen state.old) }
     ensures few { result ≤ most }
     ensures works { WorksOn program.now result (seen state.old) (seen state.new) state.old.ready.items }

@@ -18,8 +18,8 @@ use std::marker::Model;
 
 /// A running program.
 pub struct World {
-    program: Program,
-    state: State,
+    pub(crate) program: Program,
+    pub(crate) state: State,
 }
 
 impl Drop for World {
