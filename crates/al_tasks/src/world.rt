@@ -2,7 +2,7 @@
 ghost use Rattle.std.specs.Prelude.{◌≡◌, ◌+◌, ◌≤◌, ◌∷◌, OnOk, OnErr, IfOk, [], ℕ, ◌<◌, ◌^◌, pos, replicate};
 ghost use Rattle.al_tasks.specs.World.{load};
 ghost use Rattle.al_tasks.specs.Runs.{status_of};
-ghost use Rattle.al_tasks.specs.Partitions.{loaded, stepped, ran_on, part_of_run, environment};
+ghost use Rattle.al_tasks.specs.Partitions.{loaded, stepped, ran_on, part_of_run, forgotten, environment};
 ghost use Rattle.al_tasks.specs.Seen.{seen};
 
 use crate::events::step;
@@ -138,5 +138,12 @@ impl World {
         ensures { result.now ≡ self.now.world.output }
     {
         self.state.output.as_slice()
+    }
+
+    /// Lets go of what was put out. What comes is put out as ever.
+    pub fn let_go(&mut self)
+        ensures { self.new ≡ forgotten self.old }
+    {
+        self.state.output.clear();
     }
 }
