@@ -13,7 +13,7 @@ use Rattle.al_query_outcome.specs.Equations.{is_sound, unit_named}
 use Rattle.al_query_outcome.specs.Results.{Faulty, Outcome, Sound}
 use Rattle.al_query_outcome.proofs.Names.{tested}
 use Rattle.al_engine_refresh.specs.Found.{contents_findings, file_findings, findings_of, outcome_findings}
-use Rattle.al_engine.specs.GraphGraphs.{HaveOneGraph, HaveSameHeaders, contents_at}
+use Rattle.al_engine.specs.GraphGraphs.{HaveSameGraph, contents_at, unplaced_contents}
 
 -- nothing in the parts of nothing
 pub none-left : (xs ys : List Finding) → xs ++ ys ≡ [] → xs ≡ []
@@ -33,7 +33,7 @@ none-first [] ys is = refl
 none-first (x ∷ xs) ys is = absurd (cc)
 
 -- where the headers are the same and some units alone have other outcomes, which are sound, nothing is found if nothing was
-module _ (old new : Library) (g f : UnitKey → Option Outcome) (same : HaveSameHeaders old new) (one : HaveOneGraph old new) (none : findings_of old g ≡ []) (units : List UnitKey) (others : (w : UnitKey) → has_unit units w ≡ false → f w ≡ g w) (sound : (u : UnitKey) → has_unit units u ≡ true → is_sound (f u) ≡ true) where
+module _ (old new : Library) (g f : UnitKey → Option Outcome) (same : HaveSameGraph old new) (none : findings_of old g ≡ []) (units : List UnitKey) (others : (w : UnitKey) → has_unit units w ≡ false → f w ≡ g w) (sound : (u : UnitKey) → has_unit units u ≡ true → is_sound (f u) ≡ true) where
   sound-none : (file : List ℕ) (o : Option Outcome) → is_sound o ≡ true → outcome_findings file o ≡ []
   sound-none file None is = absurd (cc)
   sound-none file (Some (Faulty faults)) is = absurd (cc)
@@ -50,18 +50,37 @@ module _ (old new : Library) (g f : UnitKey → Option Outcome) (same : HaveSame
   contents-none file (Some (Headed h)) has = outcome-none file (unit_named (key_of_unit h)) has
   contents-none file (Some (Unread place code)) has = absurd (cc)
 
-  by-contents : (h : UnitKey → Option Outcome) (file : List ℕ) (o : Option Source) → option_map_or (λ (source : Source). contents_findings h file source.contents) o [] ≡ option_map_or (contents_findings h file) (option_map (λ (source : Source). source.contents) o) []
-  by-contents h file None = refl
-  by-contents h file (Some s) = refl
+  -- nothing is found in what is read without places where nothing is in what is read, and the other way round
+  abbrev found : (UnitKey → Option Outcome) → List ℕ → Option Source → List Finding
+  found h file o = option_map_or (λ (source : Source). contents_findings h file source.contents) o []
+
+  abbrev unplaced-found : (UnitKey → Option Outcome) → List ℕ → Option Source → List Finding
+  unplaced-found h file o = option_map_or (contents_findings h file) (option_map (λ (source : Source). unplaced_contents source.contents) o) []
+
+  into-unplaced : (h : UnitKey → Option Outcome) (file : List ℕ) (o : Option Source) → found h file o ≡ [] → unplaced-found h file o ≡ []
+  into-unplaced h file None is = refl
+  into-unplaced h file (Some s) is = by s.contents is
+    where
+      by : (contents : Contents) → contents_findings h file contents ≡ [] → contents_findings h file (unplaced_contents contents) ≡ []
+      by (Headed u) none = none
+      by (Unread place code) none = absurd (cc)
+
+  from-unplaced : (h : UnitKey → Option Outcome) (file : List ℕ) (o : Option Source) → unplaced-found h file o ≡ [] → found h file o ≡ []
+  from-unplaced h file None is = refl
+  from-unplaced h file (Some s) is = by s.contents is
+    where
+      by : (contents : Contents) → contents_findings h file (unplaced_contents contents) ≡ [] → contents_findings h file contents ≡ []
+      by (Headed u) none = none
+      by (Unread place code) none = absurd (cc)
 
   file-none : (file : List ℕ) → file_findings old g file ≡ [] → file_findings new f file ≡ []
   file-none file has =
-      let was = option_map_or (λ (source : Source). contents_findings g file source.contents) (source_at old file) [] in
-      let now = option_map_or (λ (source : Source). contents_findings f file source.contents) (source_at new file) [] in
-      let faults : file_faults new file ≡ [] = sym (one.faults file) ∙ none-first (file_faults old file) was has in
-      let held : option_map_or (contents_findings g file) (contents_at old file) [] ≡ [] = sym (by-contents g file (source_at old file)) ∙ none-else (file_faults old file) was has in
-      ap (λ (xs : List Finding). or_else xs now) faults ∙ by-contents f file (source_at new file)
-      ∙ contents-none file (contents_at new file) (subst (λ (o : Option Contents). option_map_or (contents_findings g file) o [] ≡ []) (same.contents file) held)
+      let was = found g file (source_at old file) in
+      let now = found f file (source_at new file) in
+      let faults : file_faults new file ≡ [] = sym (same.faults file) ∙ none-first (file_faults old file) was has in
+      let held : option_map_or (contents_findings g file) (contents_at old file) [] ≡ [] = into-unplaced g file (source_at old file) (none-else (file_faults old file) was has) in
+      ap (λ (xs : List Finding). or_else xs now) faults
+      ∙ from-unplaced f file (source_at new file) (contents-none file (contents_at new file) (subst (λ (o : Option Contents). option_map_or (contents_findings g file) o [] ≡ []) (same.headers.contents file) held))
 
   files-none : (files : List (List ℕ)) → flat_map (file_findings old g) files ≡ [] → flat_map (file_findings new f) files ≡ []
   files-none [] has = refl
@@ -71,4 +90,4 @@ module _ (old new : Library) (g f : UnitKey → Option Outcome) (same : HaveSame
 
   pub none-again : findings_of new f ≡ []
   unfolding findings_of
-  none-again = files-none (keys_of new) (subst (λ (ks : List (List ℕ)). flat_map (file_findings old g) ks ≡ []) same.files none)
+  none-again = files-none (keys_of new) (subst (λ (ks : List (List ℕ)). flat_map (file_findings old g) ks ≡ []) same.headers.files none)

@@ -29,7 +29,7 @@ use Rattle.al_engine_refresh.specs.Builds.{results_of, text_of}
 use Rattle.al_engine_refresh.specs.Found.{contents_findings, file_findings, findings_of, outcome_findings}
 use Rattle.al_engine_refresh.specs.Staying.{is_there}
 use Rattle.al_engine_refresh.specs.Staying as keeping
-use Rattle.al_engine.specs.GraphGraphs.{HaveOneGraph, HaveSameHeaders}
+use Rattle.al_engine.specs.GraphGraphs.{HaveOneGraph, HaveSameGraph}
 use Rattle.al_engine.specs.Kept.{IsGraphOf}
 use Rattle.al_engine.specs.Texts.{HaveTextsBut, may_differ}
 use Rattle.al_engine.specs.declared.alike.Edited.{Edited}
@@ -132,9 +132,9 @@ module _ (meaning : TextMeaning) (header : List ℕ → Header) (pre : Query →
   made-entries = subst (λ (at : UnitKey → Option Stored). IsRechecked meaning header (setting_of header pre lib) before at gave.checked) (λ i w. sym (all-made w) i) is.rechecked
 
   -- and where some units alone have other outcomes now, which are sound, nothing is found
-  pub clean-but : (new : Library) → HaveSameHeaders lib new → HaveOneGraph lib new → (units : List UnitKey) → IsCleanBut new entries units
-  clean-but new same one units f others sound =
-      none-again lib new (results_of is.made) f same one (nothing-found lib (results_of is.made) main gave.compiled ordered is.is_batch) units (λ w k. others w k ∙ ap (option_map outcome_of) (all-made w)) sound
+  pub clean-but : (new : Library) → HaveSameGraph lib new → (units : List UnitKey) → IsCleanBut new entries units
+  clean-but new same units f others sound =
+      none-again lib new (results_of is.made) f same (nothing-found lib (results_of is.made) main gave.compiled ordered is.is_batch) units (λ w k. others w k ∙ ap (option_map outcome_of) (all-made w)) sound
 
 -- a unit that breaks no rule is there
 there-of : (lib : Library) (key : Key) → is_faultless lib key ≡ true → is_unit lib key ≡ true
@@ -145,7 +145,6 @@ module _ (old new : Library) (entries : UnitKey → Option Stored) (edited : Edi
     (holds : (w : UnitKey) → is_unit new (key_of w) ≡ true → may_differ edited (file_name_of (key_of w)) → has_unit units w ≡ true) (others : (u : UnitKey) → has_unit units u ≡ true → IsForAnother (entries u) (text_of new u)) where
   pub edited-alone : AreEditedAlone old new entries units
   edited-alone = record {
-    headers = one.units;
     dependences = one.dependences;
     faultless = one.faultless;
     texts = λ w t apart. texts (file_name_of (key_of w)) (λ may. let has = holds w (there-of new (key_of w) t) may in absurd (cc));

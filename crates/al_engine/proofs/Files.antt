@@ -12,7 +12,7 @@ use Rattle.al_unit_graph.specs.Headers.{Source, Library}
 use Rattle.al_unit_graph.specs.Library.{source_at}
 use Rattle.al_unit_graph.proofs.Lists.{into_map}
 use Rattle.al_unit_graph.proofs.BoolLemmas.{both}
-use Rattle.al_engine.specs.GraphGraphs.{HaveSameHeaders, contents_at}
+use Rattle.al_engine.specs.GraphGraphs.{HaveSameHeaders, contents_at, unplaced_contents}
 use Rattle.al_engine.specs.Texts.{HaveTextsBut, may_differ, text_in}
 use Rattle.al_engine.specs.declared.alike.Edited.{Edited}
 
@@ -72,5 +72,5 @@ now_known old new more file found same is kept noted =
 
 pub all_known : (old new : Library) (files : List (List ℕ)) → files ≡ keys_of old → files ≡ keys_of new → (edited : Edited) → ((k : ℕ) → k < length files → (file : List ℕ) → get_or files k file ≡ file → Known old new edited file) → HaveSameHeaders old new × HaveTextsBut old new edited
 all_known old new files of_old of_new edited each =
-    let known = everywhere old new files of_old of_new (Known old new edited) each (λ file o n. (ap (option_map (λ (source : Source). source.contents)) (o ∙ sym n), λ never. ap (λ (s : Option Source). option_map_or (λ (source : Source). source.text) s []) (o ∙ sym n))) in
+    let known = everywhere old new files of_old of_new (Known old new edited) each (λ file o n. (ap (option_map (λ (source : Source). unplaced_contents source.contents)) (o ∙ sym n), λ never. ap (λ (s : Option Source). option_map_or (λ (source : Source). source.text) s []) (o ∙ sym n))) in
     (record { files = sym of_old ∙ of_new; contents = λ file. (known file).0 }, λ file never. (known file).1 never)

@@ -1,6 +1,7 @@
 -- The partition that a build can use again.
-use Rattle.std.proofs.Common.{◌≡◌, ℕ, true, List, [], ◌∷◌, ◌++◌, map, Option, Some, None, IfSome, is_some, refl, sym, subst, ◌∙◌, if◌then◌else◌}
+use Rattle.std.proofs.Common.{◌≡◌, ℕ, true, List, [], ◌∷◌, ◌++◌, map, Option, Some, None, IfSome, is_some, refl, sym, ap, subst, ◌∙◌, if◌then◌else◌}
 use Rattle.std.specs.Prelude.{MatchOption}
+use Rattle.std.specs.Option.{option_map}
 use Rattle.std.specs.List.{Contains, flat_map}
 use Rattle.al_base.specs.Batch.{Key, key_of}
 use Rattle.al_base.specs.declared.unit_key.UnitKey.{UnitKey}
@@ -16,7 +17,8 @@ use Rattle.al_query_outcome.specs.Results.{Outcome}
 use Rattle.al_engine_refresh.specs.EntryLaw.{TextMeaning}
 use Rattle.al_engine_refresh.specs.Stored.{Stored}
 use Rattle.al_engine_refresh.specs.Builds.{results_of}
-use Rattle.al_engine.specs.GraphGraphs.{HaveOneGraph}
+use Rattle.al_engine.specs.GraphGraphs.{HaveOneGraph, unplaced}
+use Rattle.al_engine.proofs.SameUnits.{there_too}
 use Rattle.al_engine.specs.Batches.{IsBatch}
 use Rattle.al_engine.specs.BatchRenewals.{HoldsPartition, KeepsPartition}
 use Rattle.al_engine.specs.declared.compiled.Compiled.{Compiled}
@@ -28,14 +30,21 @@ use Rattle.al_engine.specs.Gave.{order_of}
 use Rattle.al_engine.proofs.EditedThere.{all-made}
 
 -- the parts of an item go by what the units are
-module _ (old new : Library) (units : (key : Key) → unit_at old key ≡ unit_at new key) where
-  the_subunits : (name : List ℕ) (h : Header) → subunits_of old name h ≡ subunits_of new name h
-  the_subunits name h = λ i. flat_map (λ stub. if is_some (units (name ++ 46 ∷ stub, Sub) i) then (name ++ 46 ∷ stub, Sub) ∷ [] else []) h.stubs
+module _ (old new : Library) (units : (key : Key) → option_map unplaced (unit_at old key) ≡ option_map unplaced (unit_at new key)) where
+  some-units : (o : Option Header) → is_some o ≡ is_some (option_map unplaced o)
+  some-units None = refl
+  some-units (Some h) = refl
+
+  is-unit : (key : Key) → is_some (unit_at old key) ≡ is_some (unit_at new key)
+  is-unit key = some-units (unit_at old key) ∙ ap is_some (units key) ∙ sym (some-units (unit_at new key))
+
+  the_subunits : (name : List ℕ) (h k : Header) → unplaced h ≡ unplaced k → subunits_of old name h ≡ subunits_of new name k
+  the_subunits name h k is = (λ i. flat_map (λ stub. if is-unit (name ++ 46 ∷ stub, Sub) i then (name ++ 46 ∷ stub, Sub) ∷ [] else []) h.stubs) ∙ ap (subunits_of new name) is
 
   part : {x p : Key} → IsPartOf old x p → IsPartOf new x p
   part itself = itself
   part (subunit {p = p} {q = q} {h = h} is at c) =
-      subunit (part is) (sym (units p) ∙ at) (subst (λ (ks : List Key). Contains ks q) (the_subunits p.0 h) c)
+      let k = there_too (unit_at old p) (unit_at new p) (units p) h at in subunit (part is) k.1 (subst (λ (ks : List Key). Contains ks q) (the_subunits p.0 h k.0 k.2) c)
 
 module _ (old new : Library) (one : HaveOneGraph old new) where
   subunits-stay : (x : Key) (subunits : List Key) → AreSubunits old x subunits → AreSubunits new x subunits

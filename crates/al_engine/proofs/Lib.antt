@@ -12,6 +12,7 @@ mod FileNames
 pub mod Files
 mod FromAnswers
 mod Keeping
+mod Kept
 pub mod KeptLemmas
 pub mod KeyOrders
 mod Left

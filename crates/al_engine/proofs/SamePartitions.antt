@@ -1,6 +1,6 @@
--- Libraries with the same headers have the same partitions: what these lack, their orders of elaboration and their cycles.
-use Rattle.std.proofs.Common.{◌≡◌, ℕ, false, not, ◌&&◌, List, [], ◌∷◌, ◌++◌, length, refl, sym, subst, ◌∙◌, if◌then◌else◌}
-use Rattle.std.specs.Option.{is_some, option_map_or}
+-- Libraries whose headers are the same but for places have the same partitions: what these lack, their orders of elaboration and their cycles.
+use Rattle.std.proofs.Common.{◌≡◌, ℕ, false, not, ◌&&◌, List, [], ◌∷◌, ◌++◌, length, Some, refl, sym, subst, ◌∙◌, if◌then◌else◌}
+use Rattle.std.specs.Option.{option_map_or}
 use Rattle.std.specs.List.{Contains, filter, flat_map}
 use Rattle.al_base.specs.Batch.{Key}
 use Rattle.al_base.specs.declared.unit_key.UnitKind.TheVariants.{Decl, Body, Sub}
@@ -8,8 +8,8 @@ use Rattle.al_base_graph.specs.Relations.{IsFree, IsOrderBy}
 use Rattle.al_base_graph.specs.Ties.{IsFault}
 use Rattle.al_base_graph.specs.declared.edge.Edge.{Edge}
 use Rattle.al_base_graph.specs.declared.edge.Reason.{Reason}
-use Rattle.al_unit_graph.specs.Headers.{Library}
-use Rattle.al_unit_graph.specs.Library.{is_kind}
+use Rattle.al_unit_graph.specs.Headers.{Header, Library}
+use Rattle.al_unit_graph.specs.Library.{is_kind, unit_at}
 use Rattle.al_unit_graph.specs.Dependence.{DependsOn, directly, through}
 use Rattle.al_unit_graph.specs.Needed.{ListsUnits, Needed, main_unit, dependence, body, subunit}
 use Rattle.al_bind.specs.Binding.{IsBindFault, IsCycleOfItems, IsElaboration, items_at, items_of, key_at}
@@ -23,14 +23,14 @@ use Rattle.al_bind.specs.declared.binding.BindFault.TheVariants.{Lacks, Cycle}
 use Rattle.al_bind.specs.declared.binding.Line.{Line}
 use Rattle.al_bind.specs.declared.lacking.MissingItem.{MissingItem}
 use Rattle.al_bind.specs.declared.lacking.MissingItem.TheVariants as lacks
-use Rattle.al_engine.specs.GraphGraphs.{GraphsGoByHeaders, HaveSameHeaders}
-use Rattle.al_engine.proofs.SameFaults.{faultless, same_dependence, the_faults}
-use Rattle.al_engine.proofs.SameUnits.{back, is_a_unit, the_body_of, the_declaration, the_subunits_of, the_unit_at, what_directly}
+use Rattle.al_engine.specs.GraphGraphs.{GraphsGoByHeaders, HaveSameHeaders, unplaced}
+use Rattle.al_engine.proofs.SameFaults.{breaks, faultless, same_dependence, the_faults}
+use Rattle.al_engine.proofs.SameUnits.{back, by_unit, is_a_unit, there_too, the_body_of, the_declaration, the_subunits_of, the_unit_at, what_directly}
 
 -- what is equal in both
 module _ (old new : Library) (same : HaveSameHeaders old new) where
   pair : (name : List ℕ) → is_pair old name ≡ is_pair new name
-  pair name = λ i. option_map_or (λ h. h.has_elaborate_body) (the_unit_at old new same (name, Decl) i) false && is_some (the_unit_at old new same (name, Body) i)
+  pair name = λ i. by_unit old new same (λ h. h.has_elaborate_body) false (λ h. refl) (name, Decl) i && is_a_unit old new same (name, Body) i
 
   node : (key : Key) → node_of old key ≡ node_of new key
   node (name, Decl) = refl
@@ -55,11 +55,11 @@ module _ (old new : Library) (same : HaveSameHeaders old new) where
 
   main_is : (main : List ℕ) → is_main old main ≡ is_main new main
   main_is main = λ i.
-      option_map_or (λ x. option_map_or (λ h. h.is_parameterless_procedure) (the_unit_at old new same x i) false) (the_declaration old new same main i) false
+      option_map_or (λ x. by_unit old new same (λ h. h.is_parameterless_procedure) false (λ h. refl) x i) (the_declaration old new same main i) false
 
   without_body : (x : Key) → lacks_body old x ≡ lacks_body new x
   without_body x = λ i.
-      is_kind x.1 Decl && (option_map_or (λ h. h.needs_body) (the_unit_at old new same x i) false && not (is_a_unit old new same (x.0, Body) i))
+      is_kind x.1 Decl && (by_unit old new same (λ h. h.needs_body) false (λ h. refl) x i && not (is_a_unit old new same (x.0, Body) i))
 
   bodies : (x : Key) → missing_bodies old x ≡ missing_bodies new x
   bodies x = λ i. if without_body x i then x.0 ∷ [] else []
@@ -68,10 +68,16 @@ module _ (old new : Library) (same : HaveSameHeaders old new) where
   of_stub name stub = λ i. if is_a_unit old new same (name ++ 46 ∷ stub, Sub) i then [] else (name ++ 46 ∷ stub) ∷ []
 
   stubs : (x : Key) → missing_stubs old x ≡ missing_stubs new x
-  stubs x = λ i. option_map_or (λ h. flat_map (λ stub. of_stub x.0 stub i) h.stubs) (the_unit_at old new same x i) []
+  stubs x =
+      (λ i. option_map_or (λ h. flat_map (λ stub. of_stub x.0 stub i) h.stubs) (unit_at old x) [])
+      ∙ by_unit old new same (λ h. flat_map (missing_stub new x.0) h.stubs) [] (λ h. refl) x
 
 -- what holds in the one holds in the other
 module _ (old new : Library) (same : HaveSameHeaders old new) where
+  -- a unit of the one is one of the other, but for places
+  also : (key : Key) (h : Header) → unit_at old key ≡ Some h → (k : Header) × (unit_at new key ≡ Some k) × (unplaced h ≡ unplaced k)
+  also key h is = there_too (unit_at old key) (unit_at new key) (the_unit_at old new same key) h is
+
   on : {x y : Key} → DependsOn old x y → DependsOn new x y
   on {x} {y} (directly c) = directly (subst (λ (ks : List Key). Contains ks y) (what_directly old new same x) c)
   on (through a b) = through (on a) (on b)
@@ -81,7 +87,7 @@ module _ (old new : Library) (same : HaveSameHeaders old new) where
   needed {main} (dependence {x = x} {y = y} n c) = dependence (needed n) (subst (λ (ks : List Key). Contains ks y) (what_directly old new same x) c)
   needed {main} (body {x = x} {y = y} n c) = body (needed n) (subst (λ (ks : List Key). Contains ks y) (the_body_of old new same x) c)
   needed {main} (subunit {x = x} {y = y} {h = h} n is c) =
-      subunit (needed n) (sym (the_unit_at old new same x) ∙ is) (subst (λ (ks : List Key). Contains ks y) (the_subunits_of old new same x.0 h) c)
+      let k = also x h is in subunit (needed n) k.1 (subst (λ (ks : List Key). Contains ks y) (the_subunits_of old new same x.0 h k.0 k.2) c)
 
   item : {main : List ℕ} {x : Key} → IsItem old main x → IsItem new main x
   item {main} {x} is = (needed is.0, sym (is_a_unit old new same x) ∙ is.1, is.2)
@@ -89,13 +95,13 @@ module _ (old new : Library) (same : HaveSameHeaders old new) where
   part : {x p : Key} → IsPartOf old x p → IsPartOf new x p
   part itself = itself
   part (elaborating.subunit {p = p} {q = q} {h = h} is at c) =
-      elaborating.subunit (part is) (sym (the_unit_at old new same p) ∙ at) (subst (λ (ks : List Key). Contains ks q) (the_subunits_of old new same p.0 h) c)
+      let k = also p h at in elaborating.subunit (part is) k.1 (subst (λ (ks : List Key). Contains ks q) (the_subunits_of old new same p.0 h k.0 k.2) c)
 
   wants : {p y : Key} {reason : Reason} → Wants old p reason y → Wants new p reason y
   wants (depends d) = depends (on d)
-  wants {p} (elaborate at c) = elaborate (sym (the_unit_at old new same p) ∙ at) c
-  wants {p} (elaborate_all_body at c) = elaborate_all_body (sym (the_unit_at old new same p) ∙ at) c
-  wants {p} (elaborate_all at c n) = elaborate_all (sym (the_unit_at old new same p) ∙ at) c (needed n)
+  wants {p} (elaborate {q = q} {h = h} at c) = let k = also p h at in elaborate k.1 (subst (λ (u : Header). Contains u.elaborate q) k.2 c)
+  wants {p} (elaborate_all_body {q = q} {h = h} at c) = let k = also p h at in elaborate_all_body k.1 (subst (λ (u : Header). Contains u.elaborate_all q) k.2 c)
+  wants {p} (elaborate_all {q = q} {h = h} at c n) = let k = also p h at in elaborate_all k.1 (subst (λ (u : Header). Contains u.elaborate_all q) k.2 c) (needed n)
 
   carries : {main : List ℕ} {reason : Reason} {x y : Key} → Carries old main reason x y → Carries new main reason x y
   carries {main} {reason} {x} {y} is = record {
@@ -213,6 +219,7 @@ graphs_go_by_headers old new same = record {
   units = the_unit_at old new same;
   dependences = what_directly old new same;
   faultless = faultless old new same;
+  breaks = breaks old new same;
   faults = the_faults old new same;
   dependence = same_dependence old new same;
   elaboration = same_elaboration old new same;

@@ -12,7 +12,7 @@ use Rattle.al_engine.specs.Batches.{IsBatch, IsCompiled}
 use Rattle.al_engine.specs.declared.compiled.Compiled.{Compiled}
 use Rattle.al_engine.specs.declared.compiled.Compiled.TheVariants.{Faulty, Unbound, TooLarge, Made}
 use Rattle.std.specs.Option.{option_map}
-use Rattle.al_engine.specs.GraphGraphs.{HaveOneGraph, HaveSameHeaders}
+use Rattle.al_engine.specs.GraphGraphs.{HaveOneGraph, HaveSameGraph}
 use Rattle.al_engine.specs.Kept.{IsGraphOf}
 use Rattle.al_engine.specs.declared.graph.UnitGraph.{UnitGraph}
 use Rattle.al_engine.specs.Gave.{order_of}
@@ -59,9 +59,9 @@ compiled_orders meaning s main compiled is = batch_orders s.files is.outcomes ma
 pub some_has : {X : Type 0} (o : Option X) (x : X) (P : X → Type 0) → o ≡ Some x → IfSome o P → P x
 some_has {X} o x P is has = subst (λ (p : Option X). IfSome p P) is has
 
-pub graph_stays : (old new : Library) (graph : UnitGraph) → HaveOneGraph old new → HaveSameHeaders old new → IsGraphOf old graph → IsGraphOf new graph
+pub graph_stays : (old new : Library) (graph : UnitGraph) → HaveOneGraph old new → HaveSameGraph old new → IsGraphOf old graph → IsGraphOf new graph
 graph_stays old new graph one same is = record {
-  faults = is.faults ∙ (λ i. map (λ file. (file, one.faults file i)) (same.files i));
+  faults = is.faults ∙ (λ i. map (λ file. (file, same.faults file i)) (same.headers.files i));
   order = one.dependence (map key_of graph.order.items) is.order;
   bases = λ key d t c. is.bases key d (one.faultless key ∙ t) (subst (λ (ks : List Key). Contains ks d) (sym (one.dependences key)) c);
 }

@@ -1,31 +1,56 @@
--- What of a library goes by the headers of its units alone.
-use Rattle.std.specs.Prelude.{ℕ, ◌≡◌, List, Option}
+-- What of a library goes by the headers of its units alone, and not by the places of the names in these.
+use Rattle.std.specs.Prelude.{ℕ, ◌≡◌, Bool, List, Option, map}
 use Rattle.std.specs.Map.{keys_of}
 use Rattle.std.specs.Option.{option_map}
 use Rattle.al_base.specs.Batch.{Key}
-use Rattle.al_unit_graph.specs.Headers.{Contents, Library}
+use Rattle.al_base.specs.declared.place.Place.{Place}
+use Rattle.al_unit_graph.specs.Headers.{Contents, Header, Headed, Library, Mention, Unread}
 use Rattle.al_unit_graph.specs.Dependence.{direct}
 use Rattle.al_unit_graph.specs.Library.{source_at, unit_at}
 use Rattle.al_unit_faults.specs.GraphFaults.{file_faults}
-use Rattle.al_unit_faults.specs.Reached.{IsDependenceOrder, is_faultless}
+use Rattle.al_unit_faults.specs.Reached.{IsDependenceOrder, is_faultless, is_none_found}
 use Rattle.al_bind.specs.Binding.{IsBindFault, IsElaboration}
 use Rattle.al_bind.specs.declared.binding.BindFault.{BindFault}
 
--- what the text of a file is read as: a unit with its header, or what is wrong with the text
-abbrev pub contents_at : Library → List ℕ → Option Contents
-contents_at lib file = option_map (λ source. source.contents) (source_at lib file)
+-- a place that no text has
+abbrev pub nowhere : Place
+nowhere = record { line = 0; col = 0 }
 
--- the same files, and each is read as the same, whatever else its text says
+abbrev pub unplaced_mention : Mention → Mention
+unplaced_mention m = record m { place = nowhere }
+
+-- a header without its places
+abbrev pub unplaced : Header → Header
+unplaced h = record h { place = nowhere; parent_body = option_map unplaced_mention h.parent_body; mentions = map unplaced_mention h.mentions }
+
+-- the same of what a text is read as; where it is no unit, what is wrong with it decides nothing of the others
+abbrev pub unplaced_contents : Contents → Contents
+unplaced_contents (Headed h) = Headed (unplaced h)
+unplaced_contents (Unread place code) = Unread nowhere 0
+
+-- what the text of a file is read as, but for places: a unit with its header, or no unit
+abbrev pub contents_at : Library → List ℕ → Option Contents
+contents_at lib file = option_map (λ source. unplaced_contents source.contents) (source_at lib file)
+
+-- the same files, and each is read as the same but for places, whatever else its text says
 pub record HaveSameHeaders (old new : Library) : Type 0 where
   pub files : keys_of old ≡ keys_of new
   pub contents : (file : List ℕ) → contents_at old file ≡ contents_at new file
 
+-- .. and each breaks the same rules of the graph, at the same places
+pub record HaveSameGraph (old new : Library) : Type 0 where
+  pub headers : HaveSameHeaders old new
+  pub faults : (file : List ℕ) → file_faults old file ≡ file_faults new file
+
 -- what holds of the graph of the one library holds of that of the other
 pub record HaveOneGraph (old new : Library) : Type 0 where
-  pub units : (key : Key) → unit_at old key ≡ unit_at new key
+  pub units : (key : Key) → option_map unplaced (unit_at old key) ≡ option_map unplaced (unit_at new key)
   pub dependences : (key : Key) → direct old key ≡ direct new key
   pub faultless : (key : Key) → is_faultless old key ≡ is_faultless new key
-  pub faults : (file : List ℕ) → file_faults old file ≡ file_faults new file
+  -- where a file breaks no rule in the one library it breaks none in the other; and where it is the same in both, it breaks the same rules
+  -- at the same places
+  pub breaks : (file : List ℕ) → is_none_found (file_faults old file) ≡ is_none_found (file_faults new file)
+  pub faults : (file : List ℕ) → source_at old file ≡ source_at new file → file_faults old file ≡ file_faults new file
   pub dependence : (order : List Key) → IsDependenceOrder old order → IsDependenceOrder new order
   pub elaboration : (main : List ℕ) (items : List Key) → IsElaboration old main items → IsElaboration new main items
   pub bind_fault : (main : List ℕ) (fault : BindFault) → IsBindFault old main fault → IsBindFault new main fault

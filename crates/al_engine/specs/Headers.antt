@@ -4,7 +4,6 @@ use Rattle.al_unit_graph.specs.Headers.{Header}
 
 pub record HaveSameNames (a b : Header) : Type 0 where
   pub name : a.name ≡ b.name
-  pub place : a.place ≡ b.place
   pub designator : a.designator ≡ b.designator
   pub parent_body : a.parent_body ≡ b.parent_body
 

@@ -1,4 +1,4 @@
--- Builds in which the texts of some units were edited, and no header.
+-- Builds in which the texts of some units were edited, and of no header more than places.
 use Rattle.std.specs.Prelude.{◌≡◌, ℕ, true, false, List, map, Option, Some, None, MatchOption}
 use Rattle.std.specs.List.{Contains}
 use Rattle.std.specs.Option.{is_some}
@@ -6,7 +6,6 @@ use Rattle.al_base.specs.Batch.{Key, key_of}
 use Rattle.al_base.specs.declared.unit_key.UnitKey.{UnitKey}
 use Rattle.al_unit_graph.specs.Dependence.{direct}
 use Rattle.al_unit_graph.specs.Headers.{Header, Library}
-use Rattle.al_unit_graph.specs.Library.{unit_at}
 use Rattle.al_unit_faults.specs.Reached.{is_faultless}
 use Rattle.al_query.specs.Known.{has_unit}
 use Rattle.al_query.specs.declared.answer.AnswerKind.{AnswerKind}
@@ -35,7 +34,6 @@ IsForAnother o text = (e : Stored) × (o ≡ Some e) × (e.text ≡ text → ⊥
 
 -- each of these units has an entry for another text than it has now, and all else is as it was
 pub record AreEditedAlone (old new : Library) (entries : UnitKey → Option Stored) (units : List UnitKey) : Type 0 where
-  pub headers : (key : Key) → unit_at old key ≡ unit_at new key
   pub dependences : (key : Key) → direct old key ≡ direct new key
   pub faultless : (key : Key) → is_faultless old key ≡ is_faultless new key
   pub texts : (w : UnitKey) → is_faultless new (key_of w) ≡ true → has_unit units w ≡ false → text_of old w ≡ text_of new w

@@ -2,7 +2,7 @@
 ghost use Rattle.std.specs.Prelude.{◌≡◌, ◌∷◌, [], ℕ, false, List, IfOk, IfSome, IsTrue, OnOk, Some, map};
 ghost use Rattle.std.specs.Map.{keys_of};
 ghost use Rattle.al_unit_graph.specs.Views.{contents_model};
-ghost use Rattle.al_engine.specs.GraphGraphs.{HaveSameHeaders, contents_at};
+ghost use Rattle.al_engine.specs.GraphGraphs.{HaveSameHeaders, contents_at, unplaced_contents};
 ghost use Rattle.al_engine.specs.Texts.{HaveTextsBut, may_differ, text_in};
 
 use crate::headers::same_contents;
@@ -54,7 +54,8 @@ fn is_same_text(a: &[u8], b: &[u8]) -> bool
     a == b
 }
 
-/// Whether a file that is read as the same in both libraries, or is in neither, has the same text; none where it is read as something else.
+/// Whether a file that is read as the same but for places in both libraries, or is in neither, has the same text; none where it is read as
+/// something else.
 fn kept_at(old: &Sources, new: &Sources, file: &[u8]) -> Option<bool>
     ensures { IfSome result (λ same. (contents_at old.now file.now ≡ contents_at new.now file.now) × (IsTrue same → text_in old.now file.now ≡ text_in new.now file.now)) }
 {
@@ -72,9 +73,9 @@ fn kept_at(old: &Sources, new: &Sources, file: &[u8]) -> Option<bool>
     }
 }
 
-/// Whether a file of a library is read as this.
+/// Whether a file of a library is read as this, but for places.
 pub fn is_read_as(old: &Sources, file: &[u8], contents: &Contents) -> bool
-    ensures { IsTrue result → contents_at old.now file.now ≡ Some (contents_model contents.now) }
+    ensures { IsTrue result → contents_at old.now file.now ≡ Some (unplaced_contents (contents_model contents.now)) }
 {
     match old.source_at(file) {
         Some(source) => same_contents(&source.contents, contents),
@@ -111,8 +112,8 @@ pub fn note(alloc: Global, file: &[u8], is_same: bool, edited: &mut Edited) -> R
     Ok(())
 }
 
-/// Where two libraries have files of the same names, and each is read as the same in both, a unit with the same header, or no unit for
-/// the same reason: of which files the texts may differ.
+/// Where two libraries have files of the same names, and each is read as the same but for places in both, a unit with the same header, or no
+/// unit: of which files the texts may differ.
 ///
 /// # Errors
 ///

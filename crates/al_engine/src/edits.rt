@@ -7,7 +7,7 @@ ghost use Rattle.al_query_outcome.specs.Equations.{unit_named};
 ghost use Rattle.al_query_store.specs.Units.{at_unit};
 ghost use Rattle.al_query_store.specs.Keyed.{settled_at};
 ghost use Rattle.al_engine_refresh.specs.Builds.{results_of, text_of};
-ghost use Rattle.al_engine.specs.GraphGraphs.{HaveSameHeaders};
+ghost use Rattle.al_engine.specs.GraphGraphs.{HaveSameGraph};
 ghost use Rattle.al_engine.specs.Kept.{IsGraphOf};
 ghost use Rattle.al_engine.specs.Texts.{HaveTextsBut};
 ghost use Rattle.al_engine_refresh.specs.Settings.{ArePredefined};
@@ -128,7 +128,7 @@ pub(crate) fn edited_now<R: ReadFiles, C: UnitCheck, P: Answers>(
     requires predefined { ArePredefined (P.table predefined.now) }
     requires graph { IfSome same (λ b. IsGraphOf (R.library (R.files b.now.read)) b.now.graph.value) }
     requires settled { IfSome same (λ b. IsSettledBy C.meaning C.Text.header (P.table predefined.now) R.library cache.now.store (record { files = R.files b.now.read; main = b.now.main; gave = gave.now })) }
-    requires headers { IfSome same (λ b. HaveSameHeaders (R.library (R.files b.now.read)) (R.library (R.files read.now))) }
+    requires headers { IfSome same (λ b. HaveSameGraph (R.library (R.files b.now.read)) (R.library (R.files read.now))) }
     requires texts { IfSome same (λ b. HaveTextsBut (R.library (R.files b.now.read)) (R.library (R.files read.now)) edited.now) }
     ensures renewable { IfOk result (λ found. IfSome found (λ edits. AreEdits C.meaning C.Text.header (P.table predefined.now) (R.library (R.files read.now)) cache.now.store edits.items)) }
     ensures clean { IfOk result (λ found. IfSome found (λ edits. IsCleanBut (R.library (R.files read.now)) (settled_at cache.now.store) (units_of edits.items))) }

@@ -1,46 +1,92 @@
 // What of the last build's graph a build can take over.
-ghost use Rattle.std.specs.Prelude.{◌≡◌, List, Some, IfOk, IfSome, MatchOption, map};
-ghost use Rattle.al_base.specs.Batch.{key_of};
+ghost use Rattle.std.specs.Prelude.{◌≡◌, ℕ, List, Some, IfOk, IfSome, IsTrue, MatchOption, map};
+ghost use Rattle.std.specs.List.{Contains};
+ghost use Rattle.al_base.specs.Batch.{Finding, key_of};
+ghost use Rattle.al_unit_graph.specs.Traces.{AreReadAlike};
+ghost use Rattle.al_unit_faults.specs.FilesSeen.{file_faults_model};
 ghost use Rattle.al_bind.specs.Binding.{IsElaboration};
-ghost use Rattle.al_engine.specs.GraphGraphs.{HaveSameHeaders};
+ghost use Rattle.al_engine.specs.GraphGraphs.{HaveSameGraph, HaveSameHeaders};
 ghost use Rattle.al_engine.specs.Kept.{IsGraphOf};
-ghost use Rattle.al_engine.specs.Texts.{HaveTextsBut};
+ghost use Rattle.al_engine.specs.Texts.{HaveTextsBut, IsKeptFault};
 ghost use Rattle.al_engine.specs.Graphs.{IsOrdered};
 
 use crate::graph_laws::graphs_go_by_headers;
 use crate::last_build::LastBuild;
 use crate::read_files::ReadFiles;
 use crate::{Edited, Rebuilt, UnitGraph, order_of};
-use al_base::{NoMemory, UnitKey};
+use al_base::{Name, NoMemory, UnitKey};
+use al_unit_faults::FileFaults;
 use std::alloc::Global;
 use std::rc::Rc;
 
-/// The last build, where there was one, of whose files it is known which may have other texts now; and these.
+/// Whether a file is among these.
+fn is_among(files: &[Name], file: &[u8]) -> bool
+    ensures { Contains files.now file.now → IsTrue result }
+{
+    for name in files {
+        if name.as_slice() == file {
+            return true;
+        }
+    }
+    false
+}
+
+/// Whether what is wrong with a file as a unit stays where these were edited: nothing is, or its text is as it was.
+fn is_kept(faults: &FileFaults, edited: &Edited) -> bool
+    ensures { IsTrue result → IsKeptFault edited.now (file_faults_model faults.now) }
+{
+    faults.faults.is_empty() || !is_among(edited.files.as_slice(), faults.file.as_slice())
+}
+
+/// Whether none of the edited files breaks a rule of the graph.
+fn are_kept(faults: &[FileFaults], edited: &Edited) -> bool
+    ensures { IsTrue result → ((f : List ℕ × List Finding) → Contains (map file_faults_model faults.now) f → IsKeptFault edited.now f) }
+{
+    for file in faults {
+        if !is_kept(file, edited) {
+            return false;
+        }
+    }
+    true
+}
+
+/// The last build, where there was one, of whose files it is known which may have other texts now; and these. None where one of these files
+/// breaks a rule of the graph: what is told of it has another place.
 fn with_last<'a, R: ReadFiles>(
     read: &R,
     last: &'a Option<LastBuild<R>>,
     edited: Edited,
 ) -> (Option<&'a LastBuild<R>>, Edited)
-    requires { IfSome last.now (λ b. HaveSameHeaders (R.library (R.files b.read)) (R.library (R.files read.now)) × HaveTextsBut (R.library (R.files b.read)) (R.library (R.files read.now)) edited) }
-    ensures found { IfSome result.0 (λ b. (last.now ≡ Some b.now) × HaveSameHeaders (R.library (R.files b.now.read)) (R.library (R.files read.now))) }
+    requires reading { IfSome last.now (λ b. AreReadAlike (R.library (R.files b.read)) (R.library (R.files read.now))) }
+    requires graph { IfSome last.now (λ b. IsGraphOf (R.library (R.files b.read)) b.graph.value) }
+    requires edited { IfSome last.now (λ b. HaveSameHeaders (R.library (R.files b.read)) (R.library (R.files read.now)) × HaveTextsBut (R.library (R.files b.read)) (R.library (R.files read.now)) edited) }
+    ensures found { IfSome result.0 (λ b. (last.now ≡ Some b.now) × HaveSameGraph (R.library (R.files b.now.read)) (R.library (R.files read.now))) }
     ensures edited { IfSome result.0 (λ b. HaveTextsBut (R.library (R.files b.now.read)) (R.library (R.files read.now)) result.1) }
 {
+    graphs_go_by_headers();
     let _read = read;
     match last {
-        Some(last) => (Some(last), edited),
+        Some(last) => if are_kept(last.graph.faults.as_slice(), &edited) {
+            (Some(last), edited)
+        } else {
+            (None, edited)
+        },
         None => (None, edited),
     }
 }
 
-/// The last build, where its files are known to be those that were read now, each read as the same; and which of them may have other texts.
+/// The last build, where its files are known to be those that were read now, each read as the same but for places, and none that was edited
+/// breaks a rule of the graph; and which of them may have other texts.
 pub(crate) fn alike<'a, R: ReadFiles>(
     alloc: Global,
     read: &R,
     last: &'a Option<LastBuild<R>>,
     edited: Option<Edited>,
 ) -> (Option<&'a LastBuild<R>>, Edited)
-    requires { IfSome edited (λ e. IfSome last.now (λ b. HaveSameHeaders (R.library (R.files b.read)) (R.library (R.files read.now)) × HaveTextsBut (R.library (R.files b.read)) (R.library (R.files read.now)) e)) }
-    ensures found { IfSome result.0 (λ b. (last.now ≡ Some b.now) × HaveSameHeaders (R.library (R.files b.now.read)) (R.library (R.files read.now))) }
+    requires reading { IfSome last.now (λ b. AreReadAlike (R.library (R.files b.read)) (R.library (R.files read.now))) }
+    requires graph { IfSome last.now (λ b. IsGraphOf (R.library (R.files b.read)) b.graph.value) }
+    requires edited { IfSome edited (λ e. IfSome last.now (λ b. HaveSameHeaders (R.library (R.files b.read)) (R.library (R.files read.now)) × HaveTextsBut (R.library (R.files b.read)) (R.library (R.files read.now)) e)) }
+    ensures found { IfSome result.0 (λ b. (last.now ≡ Some b.now) × HaveSameGraph (R.library (R.files b.now.read)) (R.library (R.files read.now))) }
     ensures edited { IfSome result.0 (λ b. HaveTextsBut (R.library (R.files b.now.read)) (R.library (R.files read.now)) result.1) }
 {
     match edited {
@@ -49,13 +95,13 @@ pub(crate) fn alike<'a, R: ReadFiles>(
     }
 }
 
-/// The graph of the files that were read: that of a build whose files have the same headers, where there is one.
+/// The graph of the files that were read: that of a build whose files have the same one, where there is one.
 pub(crate) fn graph_now<R: ReadFiles>(
     alloc: Global,
     read: &R,
     alike: Option<&LastBuild<R>>,
 ) -> Result<Rc<UnitGraph>, NoMemory>
-    requires { IfSome alike (λ b. IsGraphOf (R.library (R.files b.now.read)) b.now.graph.value × HaveSameHeaders (R.library (R.files b.now.read)) (R.library (R.files read.now))) }
+    requires { IfSome alike (λ b. IsGraphOf (R.library (R.files b.now.read)) b.now.graph.value × HaveSameGraph (R.library (R.files b.now.read)) (R.library (R.files read.now))) }
     ensures { IfOk result (λ graph. IsGraphOf (R.library (R.files read.now)) graph.value) }
 {
     graphs_go_by_headers();
@@ -68,14 +114,14 @@ pub(crate) fn graph_now<R: ReadFiles>(
     }
 }
 
-/// The order of elaboration that a build gave whose files have the same headers, where it was of this main unit.
+/// The order of elaboration that a build gave whose files have the same graph, where it was of this main unit.
 pub(crate) fn order_now<'a, R: ReadFiles>(
     main: &[u8],
     read: &R,
     alike: Option<&LastBuild<R>>,
     gave: &'a Rebuilt,
 ) -> Option<&'a [UnitKey]>
-    requires { IfSome alike (λ b. IsOrdered (R.library (R.files b.now.read)) b.now.main gave.now.compiled × HaveSameHeaders (R.library (R.files b.now.read)) (R.library (R.files read.now))) }
+    requires { IfSome alike (λ b. IsOrdered (R.library (R.files b.now.read)) b.now.main gave.now.compiled × HaveSameGraph (R.library (R.files b.now.read)) (R.library (R.files read.now))) }
     ensures order { IfSome result (λ order. IsElaboration (R.library (R.files read.now)) main.now (map key_of order.now)) }
     ensures main { IfSome result (λ _. MatchOption alike.entry ⊥ (λ b. b.now.main ≡ main.now)) }
 {

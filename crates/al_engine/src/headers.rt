@@ -1,17 +1,12 @@
-// Whether two headers say the same.
+// Whether two headers say the same, but for places.
 ghost use Rattle.std.specs.Prelude.{◌≡◌, IsTrue, map};
 ghost use Rattle.std.specs.Option.{option_map};
 ghost use Rattle.al_unit_graph.specs.Views.{contents_model, header_model, mention_model};
+ghost use Rattle.al_engine.specs.GraphGraphs.{unplaced, unplaced_contents, unplaced_mention};
 ghost use Rattle.al_engine.specs.Headers.{HaveSameLists, HaveSameNames, HaveSameProperties};
 
-use al_base::{Name, Place};
+use al_base::Name;
 use al_unit_graph::{Contents, Header, Mention};
-
-fn same_place(a: Place, b: Place) -> bool
-    ensures { IsTrue result → a ≡ b }
-{
-    a.line == b.line && a.col == b.col
-}
 
 fn same_name(a: &Name, b: &Name) -> bool
     ensures { IsTrue result → a.now ≡ b.now }
@@ -26,22 +21,15 @@ fn same_names(a: &[Name], b: &[Name]) -> bool
     a == b
 }
 
-/// Whether the same name stands at the same place.
-fn same_mention(a: &Mention, b: &Mention) -> bool
-    ensures { IsTrue result → mention_model a.now ≡ mention_model b.now }
-{
-    same_place(a.place, b.place) && same_name(&a.name, &b.name)
-}
-
-/// Whether the same names stand at the same places.
+/// Whether the same names are mentioned in the same order.
 fn same_mentions(a: &[Mention], b: &[Mention]) -> bool
-    ensures { IsTrue result → map mention_model a.now ≡ map mention_model b.now }
+    ensures { IsTrue result → map unplaced_mention (map mention_model a.now) ≡ map unplaced_mention (map mention_model b.now) }
 {
     if a.len() != b.len() {
         return false;
     }
     for (i, mention) in a.iter().enumerate() {
-        if !same_mention(mention, &b[i]) {
+        if !same_name(&mention.name, &b[i].name) {
             return false;
         }
     }
@@ -50,29 +38,28 @@ fn same_mentions(a: &[Mention], b: &[Mention]) -> bool
 
 /// Whether both name the same parent body, or none (ARM 10.1.3(8)).
 fn same_parent_body(a: &Option<Mention>, b: &Option<Mention>) -> bool
-    ensures { IsTrue result → option_map mention_model a.now ≡ option_map mention_model b.now }
+    ensures { IsTrue result → option_map unplaced_mention (option_map mention_model a.now) ≡ option_map unplaced_mention (option_map mention_model b.now) }
 {
     match (a, b) {
-        (Some(a), Some(b)) => same_mention(a, b),
+        (Some(a), Some(b)) => same_name(&a.name, &b.name),
         (None, None) => true,
         (Some(_), None) => false,
         (None, Some(_)) => false,
     }
 }
 
-/// Whether the units have the same name, in the same place, with the same parent body.
+/// Whether the units have the same name, with the same parent body.
 fn have_same_names(a: &Header, b: &Header) -> bool
-    ensures { IsTrue result → HaveSameNames (header_model a.now) (header_model b.now) }
+    ensures { IsTrue result → HaveSameNames (unplaced (header_model a.now)) (unplaced (header_model b.now)) }
 {
-    same_place(a.place, b.place)
-        && same_name(&a.name, &b.name)
+    same_name(&a.name, &b.name)
         && same_name(&a.designator, &b.designator)
         && same_parent_body(&a.parent_body, &b.parent_body)
 }
 
 /// Whether the units are of the same form, with the same properties.
 fn have_same_properties(a: &Header, b: &Header) -> bool
-    ensures { IsTrue result → HaveSameProperties (header_model a.now) (header_model b.now) }
+    ensures { IsTrue result → HaveSameProperties (unplaced (header_model a.now)) (unplaced (header_model b.now)) }
 {
     a.form == b.form
         && a.is_private == b.is_private
@@ -83,7 +70,7 @@ fn have_same_properties(a: &Header, b: &Header) -> bool
 
 /// Whether the units name the same units, and have the same stubs and pragmas.
 fn have_same_lists(a: &Header, b: &Header) -> bool
-    ensures { IsTrue result → HaveSameLists (header_model a.now) (header_model b.now) }
+    ensures { IsTrue result → HaveSameLists (unplaced (header_model a.now)) (unplaced (header_model b.now)) }
 {
     same_mentions(a.mentions.as_slice(), b.mentions.as_slice())
         && same_names(a.stubs.as_slice(), b.stubs.as_slice())
@@ -92,18 +79,18 @@ fn have_same_lists(a: &Header, b: &Header) -> bool
 }
 
 fn same_header(a: &Header, b: &Header) -> bool
-    ensures { IsTrue result → header_model a.now ≡ header_model b.now }
+    ensures { IsTrue result → unplaced (header_model a.now) ≡ unplaced (header_model b.now) }
 {
     have_same_names(a, b) && have_same_properties(a, b) && have_same_lists(a, b)
 }
 
-/// Whether two texts are read as the same.
+/// Whether two texts are read as the same but for places: a unit with the same header, or no unit.
 pub(crate) fn same_contents(a: &Contents, b: &Contents) -> bool
-    ensures { IsTrue result → contents_model a.now ≡ contents_model b.now }
+    ensures { IsTrue result → unplaced_contents (contents_model a.now) ≡ unplaced_contents (contents_model b.now) }
 {
     match (a, b) {
         (Contents::Headed(a), Contents::Headed(b)) => same_header(a, b),
-        (Contents::Unread(a, n), Contents::Unread(b, m)) => same_place(*a, *b) && n == m,
+        (Contents::Unread(_, _), Contents::Unread(_, _)) => true,
         (Contents::Headed(_), Contents::Unread(_, _)) => false,
         (Contents::Unread(_, _), Contents::Headed(_)) => false,
     }

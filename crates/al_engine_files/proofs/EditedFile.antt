@@ -21,7 +21,7 @@ use Rattle.al_unit_graph.specs.Headers.{Library, Source}
 use Rattle.al_unit_graph.specs.Library.{source_at}
 use Rattle.al_unit.specs.Libraries.{library_of, source_of, texts_of}
 use Rattle.al_unit.proofs.LibraryLemmas.{names_of-library_of}
-use Rattle.al_engine.specs.GraphGraphs.{HaveSameHeaders, contents_at}
+use Rattle.al_engine.specs.GraphGraphs.{HaveSameHeaders, contents_at, unplaced_contents}
 use Rattle.al_engine.specs.Texts.{HaveTextsBut, text_in}
 use Rattle.al_engine.specs.declared.alike.Edited.{Edited}
 use Rattle.al_engine.specs.Readings.{IsEditedAt}
@@ -99,16 +99,16 @@ module _ (before : Library) (name : List ℕ) (now : Texts) (text : List ℕ) (o
   at_name file same = (bytes_eq-Decides file name).0 (sym (is_eq-slice_cmp file name) ∙ same)
 
   -- where it is read as before, it alone may have another text
-  module _ (sorted : Ascend now) (read : contents_at before name ≡ Some (source_of text).contents) where
+  module _ (sorted : Ascend now) (read : contents_at before name ≡ Some (unplaced_contents (source_of text).contents)) where
     contents : (file : List ℕ) → contents_at before file ≡ contents_at (library_of now) file
     contents file = by (is_eq (name_cmp file name)) refl
       where
-        there : contents_at (library_of now) name ≡ Some (source_of text).contents
-        there = ap (option_map (λ (s : Source). s.contents)) (source_of_file now name ∙ ap (option_map source_of) has)
+        there : contents_at (library_of now) name ≡ Some (unplaced_contents (source_of text).contents)
+        there = ap (option_map (λ (s : Source). unplaced_contents s.contents)) (source_of_file now name ∙ ap (option_map source_of) has)
 
         by : (b : Bool) → is_eq (name_cmp file name) ≡ b → contents_at before file ≡ contents_at (library_of now) file
         by true same = subst (λ (f : List ℕ). contents_at before f ≡ contents_at (library_of now) f) (sym (at_name file same)) (read ∙ sym there)
-        by false apart = ap (option_map (λ (s : Source). s.contents)) (others file apart)
+        by false apart = ap (option_map (λ (s : Source). unplaced_contents s.contents)) (others file apart)
 
     texts : (edited : Edited) → edited.files.items ≡ name ∷ [] → HaveTextsBut before (library_of now) edited
     texts edited told file never = by (is_eq (name_cmp file name)) refl
@@ -127,6 +127,6 @@ module _ (before : Library) (name : List ℕ) (now : Texts) (text : List ℕ) (o
     )
 
   -- .. or nothing is told
-  pub edited_so : Ascend now → (found : Option Edited) → IfSome found (λ e. (e.files.items ≡ name ∷ []) × (contents_at before name ≡ Some (source_of text).contents)) → IfSome found (λ edited. HaveSameHeaders before (library_of now) × HaveTextsBut before (library_of now) edited)
+  pub edited_so : Ascend now → (found : Option Edited) → IfSome found (λ e. (e.files.items ≡ name ∷ []) × (contents_at before name ≡ Some (unplaced_contents (source_of text).contents))) → IfSome found (λ edited. HaveSameHeaders before (library_of now) × HaveTextsBut before (library_of now) edited)
   edited_so sorted None told = tt
   edited_so sorted (Some e) told = edited_alone sorted told.1 e told.0

@@ -13,7 +13,7 @@ use Rattle.al_unit_graph.specs.Headers.{Contents, Library, Source}
 use Rattle.al_unit_graph.specs.Library.{source_at}
 use Rattle.al_unit.specs.Libraries.{library_of, source_of, texts_of}
 use Rattle.al_unit.proofs.LibraryLemmas.{source_of_its_text, texts_of-library_of}
-use Rattle.al_engine.specs.GraphGraphs.{HaveSameHeaders, contents_at}
+use Rattle.al_engine.specs.GraphGraphs.{HaveSameHeaders, contents_at, unplaced_contents}
 use Rattle.al_engine.specs.Texts.{HaveTextsBut, may_differ, text_in}
 use Rattle.al_engine.specs.declared.alike.Edited.{Edited}
 use Rattle.al_engine_files.specs.AdaFiles.{AreOfTexts, IsKnown, WasKept, WereRead}
@@ -31,16 +31,16 @@ module _ (lib : Library) (file text : List ℕ) (source : Source) (is : AreOfTex
   held_source = subst (λ (t : List ℕ). source ≡ source_of t) same (source_of_its_text lib file is source found)
 
   pub held_kept : WasKept lib file text true
-  held_kept = (ap (option_map (λ (s : Source). s.contents)) (sym found) ∙ ap (λ (s : Source). Some s.contents) held_source, λ _. ap (λ (o : Option Source). option_map_or (λ (s : Source). s.text) o []) (sym found) ∙ same)
+  held_kept = (ap (option_map (λ (s : Source). unplaced_contents s.contents)) (sym found) ∙ ap (λ (s : Source). Some (unplaced_contents s.contents)) held_source, λ _. ap (λ (o : Option Source). option_map_or (λ (s : Source). s.text) o []) (sym found) ∙ same)
 
 -- a source of this text with these contents
 pub as_source : (text : List ℕ) (source : Source) (contents : Contents) → source ≡ record { text = text; contents = contents } → contents ≡ (source_of text).contents → source ≡ source_of text
 as_source text source contents is same = is ∙ (λ i. record { text = text; contents = same i })
 
 -- a file that was read anew, and is read as before
-pub kept_read : (before : Library) (file text : List ℕ) (kept : Option Bool) (contents : Contents) → contents ≡ (source_of text).contents → IfSome kept (λ same. (contents_at before file ≡ Some contents) × (same ≡ false)) → IfSome kept (WasKept before file text)
+pub kept_read : (before : Library) (file text : List ℕ) (kept : Option Bool) (contents : Contents) → contents ≡ (source_of text).contents → IfSome kept (λ same. (contents_at before file ≡ Some (unplaced_contents contents)) × (same ≡ false)) → IfSome kept (WasKept before file text)
 kept_read before file text None contents is has = tt
-kept_read before file text (Some b) contents is has = (has.0 ∙ ap (λ (k : Contents). Some k) is, λ same. let never : true ≡ false = sym same ∙ has.1 in absurd (cc))
+kept_read before file text (Some b) contents is has = (has.0 ∙ ap (λ (k : Contents). Some (unplaced_contents k)) is, λ same. let never : true ≡ false = sym same ∙ has.1 in absurd (cc))
 
 -- one of a list of files
 pub known_item : {A : Type 0} (f : A → List ℕ × List ℕ) (before : Library) (edited : Edited) (xs : List A) (i : ℕ) (a : A) → a ≡ get_or xs i a → IsKnown before edited (f a) → IsKnown before edited (f (get_or xs i a))
@@ -62,20 +62,20 @@ module _ (before : Library) (files : Texts) (edited : Edited) (names : keys_of b
   unfolding library_of
   source_of_file file = lookup-map_values source_of (is_at (name_cmp file)) files
 
-  was_there : (file : List ℕ) (t : Option (List ℕ)) → text_of files file ≡ t → (s : Source) → option_map source_of t ≡ Some s → (contents_at before file ≡ Some s.contents) × ((may_differ edited file → ⊥) → text_in before file ≡ s.text)
+  was_there : (file : List ℕ) (t : Option (List ℕ)) → text_of files file ≡ t → (s : Source) → option_map source_of t ≡ Some s → (contents_at before file ≡ Some (unplaced_contents s.contents)) × ((may_differ edited file → ⊥) → text_in before file ≡ s.text)
   was_there file None none s is = absurd (cc)
   was_there file (Some t) has s is =
       let one : source_of t ≡ s = cc in
       let known = were (file, t) (Contains-from_lookup (tells_apart exact_bytes) file t files has) in
-      (known.0 ∙ ap (λ (x : Source). Some x.contents) one, λ never. known.1 never ∙ ap (λ (x : Source). x.text) one)
+      (known.0 ∙ ap (λ (x : Source). Some (unplaced_contents x.contents)) one, λ never. known.1 never ∙ ap (λ (x : Source). x.text) one)
 
   as_before : (file : List ℕ) (o n : Option Source) → source_at before file ≡ o → source_at (library_of files) file ≡ n → (contents_at before file ≡ contents_at (library_of files) file) × ((may_differ edited file → ⊥) → text_in before file ≡ text_in (library_of files) file)
   as_before file o (Some s) is_old is_new =
       let was = was_there file (text_of files file) refl s (sym (source_of_file file) ∙ is_new) in
-      (was.0 ∙ sym (ap (option_map (λ (x : Source). x.contents)) is_new), λ never. was.1 never ∙ sym (ap (λ (p : Option Source). option_map_or (λ (x : Source). x.text) p []) is_new))
+      (was.0 ∙ sym (ap (option_map (λ (x : Source). unplaced_contents x.contents)) is_new), λ never. was.1 never ∙ sym (ap (λ (p : Option Source). option_map_or (λ (x : Source). x.text) p []) is_new))
   as_before file None None is_old is_new =
       let same : source_at before file ≡ source_at (library_of files) file = is_old ∙ sym is_new in
-      (ap (option_map (λ (x : Source). x.contents)) same, λ never. ap (λ (p : Option Source). option_map_or (λ (x : Source). x.text) p []) same)
+      (ap (option_map (λ (x : Source). unplaced_contents x.contents)) same, λ never. ap (λ (p : Option Source). option_map_or (λ (x : Source). x.text) p []) same)
   as_before file (Some s) None is_old is_new =
       let there : is_some (source_at (library_of files) file) ≡ true = (IsSome-lookup_same_keys (is_at (name_cmp file)) before (library_of files) names).0 (ap is_some is_old) in
       let gone : is_some (source_at (library_of files) file) ≡ false = ap is_some is_new in

@@ -6,7 +6,7 @@ ghost use Rattle.al_base.specs.Files.{AreFiles, name_cmp};
 ghost use Rattle.al_unit_graph.specs.Views.{source_model};
 ghost use Rattle.al_unit.specs.Libraries.{library_of, texts_of};
 ghost use Rattle.al_engine.specs.Readings.{IsEditedAt};
-ghost use Rattle.al_engine.specs.GraphGraphs.{HaveSameHeaders, contents_at};
+ghost use Rattle.al_engine.specs.GraphGraphs.{HaveSameHeaders, contents_at, unplaced_contents};
 ghost use Rattle.al_engine.specs.Texts.{HaveTextsBut};
 ghost use Rattle.al_engine_files.specs.AdaFiles.{AreOfTexts};
 
@@ -51,14 +51,14 @@ fn shared_text(
     }
 }
 
-/// That one file has another text, where it is read as before; else nothing is told.
+/// That one file has another text, where it is read as before but for places; else nothing is told.
 fn edited_at(
     alloc: Global,
     before: &Sources,
     name: &[u8],
     source: &Source,
 ) -> Result<Option<Edited>, NoMemory>
-    ensures { IfOk result (λ edited. IfSome edited (λ e. (e.files.items ≡ name.now ∷ []) × (contents_at before.now name.now ≡ Some (source_model source.now).contents))) }
+    ensures { IfOk result (λ edited. IfSome edited (λ e. (e.files.items ≡ name.now ∷ []) × (contents_at before.now name.now ≡ Some (unplaced_contents (source_model source.now).contents)))) }
 {
     if is_read_as(before, name, &source.contents) {
         Ok(Some(Edited::one(alloc, name)?))

@@ -5,7 +5,7 @@ ghost use Rattle.al_base.specs.Files.{name_cmp};
 ghost use Rattle.al_unit_graph.specs.Views.{contents_model, source_model};
 ghost use Rattle.al_unit.specs.Libraries.{contents_of, library_of, source_of};
 ghost use Rattle.al_unit.specs.ReadingSeen.{reading_model};
-ghost use Rattle.al_engine.specs.GraphGraphs.{HaveSameHeaders, contents_at};
+ghost use Rattle.al_engine.specs.GraphGraphs.{HaveSameHeaders, contents_at, unplaced_contents};
 ghost use Rattle.al_engine.specs.Texts.{HaveTextsBut, may_differ};
 ghost use Rattle.al_engine_files.specs.AdaFiles.{AreOfTexts, IsKnown, WasKept, WereRead};
 
@@ -53,9 +53,9 @@ fn shared_source(
     }
 }
 
-/// No where a file was read as this before: its text is another one. None where it was read as something else.
+/// No where a file was read as this before, but for places: its text is another one. None where it was read as something else.
 fn kept_as(before: &Sources, file: &[u8], contents: &Contents) -> Option<bool>
-    ensures { IfSome result (λ same. (contents_at before.now file.now ≡ Some (contents_model contents.now)) × (same ≡ false)) }
+    ensures { IfSome result (λ same. (contents_at before.now file.now ≡ Some (unplaced_contents (contents_model contents.now))) × (same ≡ false)) }
 {
     if is_read_as(before, file, contents) {
         Some(false)
@@ -221,8 +221,8 @@ pub(crate) fn sources_after(
     Ok(sources)
 }
 
-/// The files of these texts, as [`sources_after`] gives them. Where they are files of the same names, each with the header that it had or
-/// with the same fault, of which of them the texts may be other ones. Of a file that is shared nothing is compared.
+/// The files of these texts, as [`sources_after`] gives them. Where they are files of the same names, each with the header that it had but for places, or
+/// none again, of which of them the texts may be other ones. Of a file that is shared nothing is compared.
 ///
 /// # Errors
 ///

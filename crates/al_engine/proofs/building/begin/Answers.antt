@@ -9,34 +9,47 @@ use Rattle.al_engine.specs.BatchRenewals.{KeepsPartition}
 use Rattle.al_engine.specs.Prepared.{IsPrepared}
 use Rattle.al_engine.specs.Renewed.{IsCleanBut}
 use Rattle.al_engine.specs.RecheckEdits.{AreEdits, units_of}
-use Rattle.al_engine.specs.GraphGraphs.{HaveSameHeaders}
+use Rattle.al_engine.specs.GraphGraphs.{HaveSameGraph}
 use Rattle.al_engine.specs.Kept.{IsGraphOf}
 use Rattle.al_engine.specs.declared.graph.UnitGraph.{UnitGraph}
 use Rattle.al_engine.specs.Graphs.{IsOrdered}
 use Rattle.al_engine.specs.States.{IsSettledBy}
+use Rattle.al_unit_graph.specs.Traces.{AreReadAlike}
+use Rattle.al_engine.proofs.EditedThere.{for-any}
 use Rattle.al_engine.proofs.Keeping.{partition-for}
 use Rattle.al_engine.proofs.Taken.{besides, first_of, graphs_of, of_last, second_of}
 use Rattle.al_engine.proofs.building.begin.Goals as goal
+
+pub alike-found-requires-clause-graph : goal.alike-found-requires-clause-graph
+alike-found-requires-clause-graph g c =
+    let library = g.R.ReadFiles.library in
+    let files = g.R.ReadFiles.files in
+    graphs_of c.args.last.now (λ b. IsGraphOf (library (files b.read)) b.graph.value) (λ b. IsOrdered (library (files b.read)) b.main c.args.gave.now.compiled) c.requires.last
+
+pub alike-found-requires-clause-reading : goal.alike-found-requires-clause-reading
+alike-found-requires-clause-reading g c =
+    for-any c.args.last.now (λ b. AreReadAlike (g.R.ReadFiles.library (g.R.ReadFiles.files b.read)) (g.R.ReadFiles.library (g.R.ReadFiles.files c.args.read.now)))
+    (λ b. c.requires.reading.alike (g.R.ReadFiles.files b.read) (g.R.ReadFiles.files c.args.read.now))
 
 pub graph_now-requires : goal.graph_now-requires
 graph_now-requires g c =
     let library = g.R.ReadFiles.library in
     let files = g.R.ReadFiles.files in
     first_of c.args.last.now (λ b. b.now) (λ b. IsGraphOf (library (files b.read)) b.graph.value) (λ b. IsOrdered (library (files b.read)) b.main c.args.gave.now.compiled)
-    (λ b. HaveSameHeaders (library (files b.now.read)) (library (files c.args.read.now))) c.alike-found.result.0 c.alike-found.ensures.found c.requires.last
+    (λ b. HaveSameGraph (library (files b.now.read)) (library (files c.args.read.now))) c.alike-found.result.0 c.alike-found.ensures.found c.requires.last
 
 pub order_now-order-requires : goal.order_now-order-requires
 order_now-order-requires g c =
     let library = g.R.ReadFiles.library in
     let files = g.R.ReadFiles.files in
     second_of c.args.last.now (λ b. b.now) (λ b. IsGraphOf (library (files b.read)) b.graph.value) (λ b. IsOrdered (library (files b.read)) b.main c.args.gave.now.compiled)
-    (λ b. HaveSameHeaders (library (files b.now.read)) (library (files c.args.read.now))) c.alike-found.result.0 c.alike-found.ensures.found c.requires.last
+    (λ b. HaveSameGraph (library (files b.now.read)) (library (files c.args.read.now))) c.alike-found.result.0 c.alike-found.ensures.found c.requires.last
 
 pub edited_now-requires-clause-graph : goal.edited_now-requires-clause-graph
 edited_now-requires-clause-graph g c =
     let library = g.R.ReadFiles.library in
     let files = g.R.ReadFiles.files in
-    of_last c.args.last.now (λ b. b.now) (λ b. IsGraphOf (library (files b.read)) b.graph.value) (λ b. HaveSameHeaders (library (files b.now.read)) (library (files c.args.read.now))) c.alike-found.result.0 c.alike-found.ensures.found
+    of_last c.args.last.now (λ b. b.now) (λ b. IsGraphOf (library (files b.read)) b.graph.value) (λ b. HaveSameGraph (library (files b.now.read)) (library (files c.args.read.now))) c.alike-found.result.0 c.alike-found.ensures.found
     (graphs_of c.args.last.now (λ b. IsGraphOf (library (files b.read)) b.graph.value) (λ b. IsOrdered (library (files b.read)) b.main c.args.gave.now.compiled) c.requires.last)
 
 pub edited_now-requires-clause-settled : goal.edited_now-requires-clause-settled
@@ -45,13 +58,13 @@ edited_now-requires-clause-settled g c =
     let files = g.R.ReadFiles.files in
     of_last c.args.last.now (λ b. b.now)
     (λ b. IsSettledBy g.C.UnitCheck.meaning g.C.Text.ReadText.header (g.P.Answers.table c.args.predefined.now) library c.args.cache.now.store (record { files = files b.read; main = b.main; gave = c.args.gave.now }))
-    (λ b. HaveSameHeaders (library (files b.now.read)) (library (files c.args.read.now))) c.alike-found.result.0 c.alike-found.ensures.found c.requires.settled
+    (λ b. HaveSameGraph (library (files b.now.read)) (library (files c.args.read.now))) c.alike-found.result.0 c.alike-found.ensures.found c.requires.settled
 
 pub edited_now-requires-clause-headers : goal.edited_now-requires-clause-headers
 edited_now-requires-clause-headers g c =
     let library = g.R.ReadFiles.library in
     let files = g.R.ReadFiles.files in
-    besides c.args.last.now (λ b. b.now) (λ b. HaveSameHeaders (library (files b.now.read)) (library (files c.args.read.now))) c.alike-found.result.0 c.alike-found.ensures.found
+    besides c.args.last.now (λ b. b.now) (λ b. HaveSameGraph (library (files b.now.read)) (library (files c.args.read.now))) c.alike-found.result.0 c.alike-found.ensures.found
 
 pub prepare-requires-clause-edited : goal.prepare-requires-clause-edited
 prepare-requires-clause-edited g c =

@@ -5,7 +5,7 @@ use Rattle.al_base.specs.FileNames.{file_name_of}
 use Rattle.al_query_store.specs.Units.{at_unit}
 use Rattle.al_unit_graph.specs.Headers.{Library}
 use Rattle.al_query_store.specs.Keyed.{settled_at}
-use Rattle.al_engine.specs.GraphGraphs.{HaveSameHeaders}
+use Rattle.al_engine.specs.GraphGraphs.{HaveSameGraph}
 use Rattle.al_engine.specs.Kept.{IsGraphOf}
 use Rattle.al_engine.specs.Texts.{HaveTextsBut}
 use Rattle.al_engine.specs.declared.graph.UnitGraph.{UnitGraph}
@@ -33,10 +33,10 @@ returns-clause-renewable g c =
     let old = library (files build.now.read) in
     let new = c.sources-sources.result.now in
     let settled = some_has c.args.same build (λ b. IsSettledBy meaning header pre library store (record { files = files b.now.read; main = b.now.main; gave = c.args.gave.now })) c.in-Some.is c.requires.settled in
-    let headers : HaveSameHeaders old new =
-    subst (λ (l : Library). HaveSameHeaders old l) (sym c.sources-sources.ensures) (some_has c.args.same build (λ b. HaveSameHeaders (library (files b.now.read)) (library (files c.args.read.now))) c.in-Some.is c.requires.headers) in
+    let headers : HaveSameGraph old new =
+    subst (λ (l : Library). HaveSameGraph old l) (sym c.sources-sources.ensures) (some_has c.args.same build (λ b. HaveSameGraph (library (files b.now.read)) (library (files c.args.read.now))) c.in-Some.is c.requires.headers) in
     let ordered = c.is_ordered.ensures c.if-not-is_ordered.false in
-    let one = c.graphs_go_by_headers.ensures old new headers in
+    let one = c.graphs_go_by_headers.ensures old new headers.headers in
     let known = c.edited_units.ensures in
     let graph = some_has c.args.same build (λ b. IsGraphOf (library (files b.now.read)) b.now.graph.value) c.in-Some.is c.requires.graph in
     let texts : HaveTextsBut old new c.args.edited.now =
@@ -75,17 +75,17 @@ returns-clause-clean g c =
     let old = library (files build.now.read) in
     let new = c.sources-sources.result.now in
     let settled = some_has c.args.same build (λ b. IsSettledBy meaning header pre library store (record { files = files b.now.read; main = b.now.main; gave = c.args.gave.now })) c.in-Some.is c.requires.settled in
-    let headers : HaveSameHeaders old new =
-    subst (λ (l : Library). HaveSameHeaders old l) (sym c.sources-sources.ensures) (some_has c.args.same build (λ b. HaveSameHeaders (library (files b.now.read)) (library (files c.args.read.now))) c.in-Some.is c.requires.headers) in
+    let headers : HaveSameGraph old new =
+    subst (λ (l : Library). HaveSameGraph old l) (sym c.sources-sources.ensures) (some_has c.args.same build (λ b. HaveSameGraph (library (files b.now.read)) (library (files c.args.read.now))) c.in-Some.is c.requires.headers) in
     let ordered = c.is_ordered.ensures c.if-not-is_ordered.false in
-    let one = c.graphs_go_by_headers.ensures old new headers in
+    let one = c.graphs_go_by_headers.ensures old new headers.headers in
     let known = c.edited_units.ensures in
     each-found c.edited_units.result
     (λ es. AreEditedIn new entries c.deref.result.now c.as_slice.result.now es.items)
     (λ es. IsCleanBut (library (files c.args.read.now)) entries (units_of es.items))
     known
     (λ es are. subst (λ (l : Library). IsCleanBut l entries (units_of es.items)) c.sources-sources.ensures
-    (clean-but meaning header pre old build.now.main settled.before entries c.args.gave.now settled.rebuilt ordered new headers one (units_of es.items)))
+    (clean-but meaning header pre old build.now.main settled.before entries c.args.gave.now settled.rebuilt ordered new headers (units_of es.items)))
 
 pub returns-clause-partition : goal.returns-clause-partition
 returns-clause-partition g c =
@@ -100,10 +100,10 @@ returns-clause-partition g c =
     let old = library (files build.now.read) in
     let new = c.sources-sources.result.now in
     let settled = some_has c.args.same build (λ b. IsSettledBy meaning header pre library store (record { files = files b.now.read; main = b.now.main; gave = c.args.gave.now })) c.in-Some.is c.requires.settled in
-    let headers : HaveSameHeaders old new =
-    subst (λ (l : Library). HaveSameHeaders old l) (sym c.sources-sources.ensures) (some_has c.args.same build (λ b. HaveSameHeaders (library (files b.now.read)) (library (files c.args.read.now))) c.in-Some.is c.requires.headers) in
+    let headers : HaveSameGraph old new =
+    subst (λ (l : Library). HaveSameGraph old l) (sym c.sources-sources.ensures) (some_has c.args.same build (λ b. HaveSameGraph (library (files b.now.read)) (library (files c.args.read.now))) c.in-Some.is c.requires.headers) in
     let ordered = c.is_ordered.ensures c.if-not-is_ordered.false in
-    let one = c.graphs_go_by_headers.ensures old new headers in
+    let one = c.graphs_go_by_headers.ensures old new headers.headers in
     let known = c.edited_units.ensures in
     let K : Library → Type 0 = λ l. KeepsPartition l (results_of entries) build.now.main c.args.gave.now.compiled in
     let keeps : K (library (files c.args.read.now)) =

@@ -6,7 +6,7 @@ use Rattle.al_base.proofs.HeldFiles.{held_text, short_name}
 use Rattle.al_unit_graph.specs.Headers.{Library, Source}
 use Rattle.al_unit_graph.specs.Views.{source_model}
 use Rattle.al_unit.specs.Libraries.{library_of, texts_of}
-use Rattle.al_engine.specs.GraphGraphs.{HaveSameHeaders, contents_at}
+use Rattle.al_engine.specs.GraphGraphs.{HaveSameHeaders, contents_at, unplaced_contents}
 use Rattle.al_engine.specs.Texts.{HaveTextsBut}
 use Rattle.al_engine_files.proofs.EditedFile.{edited_so, named-file, never-gone, now_is}
 use Rattle.al_engine_files.proofs.renewing.sources_renewed.Goals as goal
@@ -39,7 +39,7 @@ returns-clause-edited c =
     let name = c.args.name.now in
     let text = c.in_ok-text.text.value.items in
     let has : text_of c.args.files.now name ≡ Some text = sym c.get.ensures ∙ ap (λ o. option_map (λ (t : Bor (List ℕ)). t.now) o) c.in-Some.is ∙ ap (λ (t : List ℕ). Some t) (sym c.in_ok-text.ensures.text) in
-    let told = subst (λ (s : Source). IfSome c.in_ok-edited.edited (λ e. (e.files.items ≡ name ∷ []) × (contents_at before name ≡ Some s.contents))) (ap source_model c.deref.ensures ∙ c.in_ok-held.ensures.source) c.in_ok-edited.ensures in
+    let told = subst (λ (s : Source). IfSome c.in_ok-edited.edited (λ e. (e.files.items ≡ name ∷ []) × (contents_at before name ≡ Some (unplaced_contents s.contents)))) (ap source_model c.deref.ensures ∙ c.in_ok-held.ensures.source) c.in_ok-edited.ensures in
     let is : c.put_in.new.sources ≡ library_of c.args.files.now =
     c.in_ok-put_in.ensures
     ∙ ap (λ (s : Source). insert_entry name_cmp before name s) c.in_ok-held.ensures.source
