@@ -19,8 +19,8 @@ from timings import put
 from whole import package, tree
 
 TURNS = 5
-# The functions whose calls are the checks of units.
-CHECK = re.compile(r"BoundedCheck.*check", re.IGNORECASE)
+# The function that checks a unit, and marks what reads it.
+CHECK = re.compile(r"al_engine_refresh::unit::check_anew")
 
 
 def base(step=1, more="", private_more=""):

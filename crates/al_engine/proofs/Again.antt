@@ -31,6 +31,7 @@ use Rattle.al_unit_faults.specs.Reached.{is_faultless}
 use Rattle.al_view.proofs.SymbolLemmas.{both}
 use Rattle.al_engine_refresh.proofs.LoopLemmas.{raised-none}
 use Rattle.al_engine.specs.Builds.{IsBuild}
+use Rattle.al_engine.specs.Graphs.{Remembered}
 use Rattle.al_engine.specs.States.{Built, Held, IsOfNow, IsRight, IsSettledBy}
 
 -- what stays of an entry that stayed is that entry
@@ -123,7 +124,7 @@ module _ (meaning : TextMeaning) (header : List ℕ → Header) (predefined : Qu
           ∙ ap (λ (x : Bool). x || differ (state store u).was_reached (state store u).was_reached) (gone u (is_some (settled_at store u)) refl)
           ∙ differ_same (state store u).was_reached
 
-  right-some : (files : Texts) (store : Entries) (is_edited : Bool) (graph : Option (Texts × UnitGraph)) (b : Built) (checked : List UnitKey) → checked ≡ [] → IsRight meaning header predefined library files store is_edited graph (Some b) b.gave.compiled
+  right-some : (files : Texts) (store : Entries) (is_edited : Bool) (graph : Option Remembered) (b : Built) (checked : List UnitKey) → checked ≡ [] → IsRight meaning header predefined library files store is_edited graph (Some b) b.gave.compiled
       → IsRight meaning header predefined library files store is_edited graph (Some (again b checked)) b.gave.compiled
   unfolding settled-again rebuilt-again
   right-some files store is_edited graph b checked none right = record {
@@ -160,7 +161,7 @@ module _ (meaning : TextMeaning) (header : List ℕ → Header) (predefined : Qu
       (build-at count cache pre b checked none is ready bound))
 
 -- the last build is made once more with no unit checked
-module _ (meaning : TextMeaning) (header : List ℕ → Header) (library : Texts → Library) {X : Type 0} (remembered : X → Texts × UnitGraph) (files_of : X → Texts) (main_of : X → List ℕ) (gave : Rebuilt) (checked : List UnitKey) (none : checked ≡ []) (files : Texts) (is_edited : Bool) where
+module _ (meaning : TextMeaning) (header : List ℕ → Header) (library : Texts → Library) {X : Type 0} (remembered : X → Remembered) (files_of : X → Texts) (main_of : X → List ℕ) (gave : Rebuilt) (checked : List UnitKey) (none : checked ≡ []) (files : Texts) (is_edited : Bool) where
   abbrev pub built_of : Rebuilt → Option X → Option Built
   built_of g last = option_map (λ x. record { files = files_of x; main = main_of x; gave = g }) last
 

@@ -19,6 +19,8 @@ use Rattle.al_engine.specs.Patches.{IsPatched, linked_in}
 use Rattle.al_engine.specs.Rebuilds.{IsKept, IsRebuilt}
 use Rattle.al_engine.specs.declared.rebuilding.Rebuilt.{Rebuilt}
 use Rattle.al_engine.specs.Builds.{IsBuild}
+use Rattle.al_engine.specs.Graphs.{AreElaborations, Remembered}
+use Rattle.al_engine.specs.declared.orders.KnownOrder.{KnownOrder}
 use Rattle.al_engine.specs.States.{AreReadFor, Built, Held, IsRight, IsSettledBy, linked_last}
 use Rattle.al_engine.proofs.SameLemmas.{right-same}
 
@@ -33,21 +35,21 @@ module _ (meaning : TextMeaning) (header : List ℕ → Header) (library : Texts
       (subst (λ (x : List ℕ). IsSettledBy meaning header pre library new (record { files = read; main = x; gave = b.gave })) (sym m)
       (record { before = settled_at old; rebuilt = rebuilt.0; reached = rebuilt.1.reached }))
 
-  pub right-built : (pre : Query → AnswerKind) (old new : Entries) (files read : Texts) (main : List ℕ) (graph : UnitGraph) (b : Built) → AreReadFor header library → ArePredefined pre → b.files ≡ read → read ≡ files → b.main ≡ main → IsGraphOf (library b.files) graph
+  pub right-built : (pre : Query → AnswerKind) (old new : Entries) (files read : Texts) (main : List ℕ) (graph : UnitGraph) (orders : List KnownOrder) (b : Built) → AreReadFor header library → ArePredefined pre → b.files ≡ read → read ≡ files → b.main ≡ main → IsGraphOf (library b.files) graph → AreElaborations (library b.files) orders
       → Rebuilds pre read main old new b.gave → IsCompiled meaning (setting_of header pre (library b.files)) b.main b.gave.compiled
-      → IsRight meaning header pre library files new false (Some (b.files, graph)) (Some b) b.gave.compiled
-  right-built pre old new files read main graph b reading predefined f r m is_graph rebuilt right = record {
+      → IsRight meaning header pre library files new false (Some (b.files, graph, orders)) (Some b) b.gave.compiled
+  right-built pre old new files read main graph orders b reading predefined f r m is_graph are_orders rebuilt right = record {
     read = reading;
     predefined_units = predefined;
     built_right = right;
     settled = settled-built pre old new read main b f m rebuilt;
     unedited = λ e. f ∙ r;
     ready = rebuilt.1.ready;
-    keeps_graph = is_graph;
+    keeps_graph = (is_graph, are_orders);
     first = λ e. absurd (cc);
   }
 
-  module _ {X : Type 0} (remembered : X → Texts × UnitGraph) (files_of : X → Texts) (main_of : X → List ℕ) where
+  module _ {X : Type 0} (remembered : X → Remembered) (files_of : X → Texts) (main_of : X → List ℕ) where
     abbrev pub built_of : Rebuilt → Option X → Option Built
     built_of g last = option_map (λ x. record { files = files_of x; main = main_of x; gave = g }) last
 

@@ -38,11 +38,10 @@ others-alone now settled (Some e) (Some u) is others = λ w k.
     others w (ap (λ (us : List UnitKey). has_unit us w) is ∙ ap (λ (b : Bool). b || false) (turned-unit u.now w false k))
 
 -- and what is known where there are edited units is known where there is one
-pub known-alone : (K : Type 0) {O : Type 0} (known : Option O) (edits : Option (Bor (List EditedUnit))) (unit : Option (Bor UnitKey)) → IfSome unit (λ u. MatchOption edits ⊥ (λ e. units_of e.now ≡ u.now ∷ [])) → IfSome known (λ _. IfSome edits (λ _. K)) → IfSome known (λ _. IfSome unit (λ _. K))
-known-alone K None edits unit is has = tt
-known-alone K (Some o) edits None is has = tt
-known-alone K (Some o) None (Some u) is has = absurd is
-known-alone K (Some o) (Some e) (Some u) is has = has
+pub known-alone : (K : Type 0) (edits : Option (Bor (List EditedUnit))) (unit : Option (Bor UnitKey)) → IfSome unit (λ u. MatchOption edits ⊥ (λ e. units_of e.now ≡ u.now ∷ [])) → IfSome edits (λ _. K) → IfSome unit (λ _. K)
+known-alone K edits None is has = tt
+known-alone K None (Some u) is has = absurd is
+known-alone K (Some e) (Some u) is has = has
 
 -- the edited units, where all others have the entries that they had
 module _ {Y : Type 0} (edited : Option (Vec EditedUnit Y)) (is_renewal : Bool) where
@@ -65,8 +64,3 @@ module _ {Y : Type 0} (edited : Option (Vec EditedUnit Y)) (is_renewal : Bool) w
       by : (o : Option (Vec EditedUnit Y)) → MatchOption o ⊥ (λ e. e.items ≡ edits.now) → MatchOption o ⊥ (λ e. IsRenewal old (units_of e.items) made) → IsRenewal old (units_of edits.now) made
       by None none h = absurd none
       by (Some e) same h = subst (λ (us : List EditedUnit). IsRenewal old (units_of us) made) same h
-
-  -- what is known where there is something known of edited units
-  pub known-of : (K : Type 0) {O : Type 0} (known : Option O) (found : Option (Bor (List EditedUnit))) → Names found → IfSome known (λ _. IfSome edited (λ _. K)) → IfSome known (λ _. IfSome found (λ _. K))
-  known-of K None found is has = tt
-  known-of K (Some o) found is has = of-edited (λ _. K) found is has

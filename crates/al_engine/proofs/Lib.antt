@@ -1,7 +1,6 @@
 mod Again
 mod Bases
 mod BuiltLemmas
-mod Clean
 pub mod Closing
 pub mod Completing
 mod Defined

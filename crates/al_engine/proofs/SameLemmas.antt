@@ -10,6 +10,7 @@ use Rattle.al_engine_refresh.specs.Moves.{Entries}
 use Rattle.al_engine.proofs.RecheckSameLemmas.{before-same, ready-same, settled-same}
 use Rattle.al_engine.specs.declared.graph.UnitGraph.{UnitGraph}
 use Rattle.al_engine.specs.declared.compiled.Compiled.{Compiled}
+use Rattle.al_engine.specs.Graphs.{Remembered}
 use Rattle.al_engine.specs.States.{Built, IsRight, IsSettledBy}
 
 module _ (meaning : TextMeaning) (header : List ℕ → Header) (pre : Query → AnswerKind) (library : Texts → Library) (old new : Entries) (same : SameStates old new) where
@@ -29,7 +30,7 @@ module _ (meaning : TextMeaning) (header : List ℕ → Header) (pre : Query →
   settled-last None is = is
   settled-last (Some b) is = settled-by-same b is
 
-  pub right-same : (files : Texts) (is_edited : Bool) (graph : Option (Texts × UnitGraph)) (built : Option Built) (gave : Compiled) → IsRight meaning header pre library files old is_edited graph built gave → IsRight meaning header pre library files new is_edited graph built gave
+  pub right-same : (files : Texts) (is_edited : Bool) (graph : Option Remembered) (built : Option Built) (gave : Compiled) → IsRight meaning header pre library files old is_edited graph built gave → IsRight meaning header pre library files new is_edited graph built gave
   right-same files is_edited graph built gave right = record {
     read = right.read;
     predefined_units = right.predefined_units;

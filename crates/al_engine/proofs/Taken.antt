@@ -1,22 +1,22 @@
 -- What a build takes over of the last one.
-use Rattle.std.proofs.Common.{◌≡◌, ℕ, List, map, Bor, Option, Some, None, IfSome, sym, subst, ◌∙◌}
+use Rattle.std.proofs.Common.{◌≡◌, ℕ, List, [], ◌∷◌, ◌++◌, inl, inr, map, Bor, Option, Some, None, IfSome, sym, subst, ◌∙◌}
 use Rattle.std.specs.List.{Contains}
-use Rattle.al_base.specs.Batch.{Key, key_of}
+use Rattle.std.proofs.lemmas.List.Elements.{Contains-append_cases}
 use Rattle.al_base.specs.declared.unit_key.UnitKey.{UnitKey}
-use Rattle.al_unit_graph.specs.Headers.{Library}
 use Rattle.al_bind.specs.Binding.{IsElaboration}
-use Rattle.al_query_outcome.specs.Equations.{Setting}
-use Rattle.al_query_outcome.specs.Results.{Outcome}
-use Rattle.al_engine_refresh.specs.EntryLaw.{TextMeaning}
-use Rattle.al_engine.specs.Batches.{IsBatch, IsCompiled}
-use Rattle.al_engine.specs.declared.compiled.Compiled.{Compiled}
-use Rattle.al_engine.specs.declared.compiled.Compiled.TheVariants.{Faulty, Unbound, TooLarge, Made}
-use Rattle.std.specs.Option.{option_map}
+use Rattle.al_base_graph.proofs.Members.{nowhere, the_one}
+use Rattle.al_base.specs.Batch.{Key, key_of}
+use Rattle.al_unit_graph.specs.Headers.{Library}
 use Rattle.al_engine.specs.GraphGraphs.{HaveOneGraph, HaveSameGraph}
 use Rattle.al_engine.specs.Kept.{IsGraphOf}
 use Rattle.al_engine.specs.declared.graph.UnitGraph.{UnitGraph}
-use Rattle.al_engine.specs.Gave.{order_of}
-use Rattle.al_engine.specs.Graphs.{IsOrdered}
+use Rattle.al_query_outcome.specs.Results.{Outcome}
+use Rattle.al_engine.specs.Plans.{IsPlanned}
+use Rattle.al_engine.specs.declared.compiled.Compiled.{Compiled}
+use Rattle.al_engine.specs.declared.planned.Planned.{Planned}
+use Rattle.al_engine.specs.declared.planned.Planned.TheVariants as plans
+use Rattle.al_engine.specs.Graphs.{AreElaborations, IsOrderOf}
+use Rattle.al_engine.specs.declared.orders.KnownOrder.{KnownOrder}
 
 -- a build that was found to be the last one is as that one is
 pub first_of : {X B : Type 0} (last : Option B) (now : X → B) (A C : B → Type 0) (Q : X → Type 0) (same : Option X)
@@ -41,20 +41,6 @@ pub besides : {X B : Type 0} (last : Option B) (now : X → B) (Q : X → Type 0
 besides last now Q None is = tt
 besides last now Q (Some b) is = is.1
 
-module _ (lib : Library) (f : UnitKey → Option Outcome) (main : List ℕ) where
-  some_is : {X : Type 0} (P : X → Type 0) (x y : X) → P x → Some x ≡ Some y → P y
-  some_is {X} P x y p e = subst P (cc) p
-
-  batch_orders : (compiled : Compiled) → IsBatch lib f main compiled → IsOrdered lib main compiled
-  batch_orders (Faulty diagnostics) is order e = absurd (cc)
-  batch_orders (Unbound fault) is order e = absurd (cc)
-  batch_orders (TooLarge found) is order e = some_is (λ (us : List UnitKey). IsElaboration lib main (map key_of us)) found.items order is.1.ordered e
-  batch_orders (Made program) is order e = some_is (λ (us : List UnitKey). IsElaboration lib main (map key_of us)) program.order.items order is.1.ordered e
-
--- the order that compiling from nothing gives is one of elaboration
-pub compiled_orders : (meaning : TextMeaning) (s : Setting) (main : List ℕ) (compiled : Compiled) → IsCompiled meaning s main compiled → IsOrdered s.files main compiled
-compiled_orders meaning s main compiled is = batch_orders s.files is.outcomes main compiled is.is_batch
-
 -- what is so of what there is
 pub some_has : {X : Type 0} (o : Option X) (x : X) (P : X → Type 0) → o ≡ Some x → IfSome o P → P x
 some_has {X} o x P is has = subst (λ (p : Option X). IfSome p P) is has
@@ -66,7 +52,28 @@ graph_stays old new graph one same is = record {
   bases = λ key d t c. is.bases key d (one.faultless key ∙ t) (subst (λ (ks : List Key). Contains ks d) (sym (one.dependences key)) c);
 }
 
-pub order_stays : (old new : Library) (main : List ℕ) (compiled : Compiled) (found : Option (Bor (List UnitKey))) → HaveOneGraph old new → IsOrdered old main compiled → option_map (λ order. order.now) found ≡ order_of compiled
-    → IfSome found (λ order. IsElaboration new main (map key_of order.now))
-order_stays old new main compiled None one is e = tt
-order_stays old new main compiled (Some order) one is e = one.elaboration main (map key_of order.now) (is order.now (sym e))
+pub orders_stay : (old new : Library) (orders : List KnownOrder) → HaveOneGraph old new → AreElaborations old orders → AreElaborations new orders
+orders_stay old new orders one are o c = one.elaboration o.main (map key_of o.order.items) (are o c)
+
+-- the order that was found among these is one of elaboration
+pub orders_for : (lib : Library) (main : List ℕ) (orders : List KnownOrder) (found : Option (Bor (List UnitKey))) → AreElaborations lib orders → IfSome found (λ order. (l : Library) → AreElaborations l orders → IsElaboration l main (map key_of order.now)) → IfSome found (λ order. IsElaboration lib main (map key_of order.now))
+orders_for lib main orders None are is = tt
+orders_for lib main orders (Some order) are is = is lib are
+
+-- no order is known
+pub no_orders : (lib : Library) → AreElaborations lib []
+no_orders lib o c = absurd (nowhere o c)
+
+-- one order more
+pub order_more : (lib : Library) (orders : List KnownOrder) (known : KnownOrder) → AreElaborations lib orders → IsElaboration lib known.main (map key_of known.order.items) → AreElaborations lib (orders ++ known ∷ [])
+order_more lib orders known are is o c = elim (Contains-append_cases orders (known ∷ []) o c) as (λ _. IsElaboration lib o.main (map key_of o.order.items)) [
+  | inl h ↦ are o h
+  | inr h ↦ subst (λ (k : KnownOrder). IsElaboration lib k.main (map key_of k.order.items)) (the_one known o h) is
+]
+
+-- the order of a partition that is planned is one of elaboration
+pub planned_orders : (lib : Library) (f : UnitKey → Option Outcome) (main : List ℕ) (before : Compiled) (planned : Planned) → IsPlanned lib f main before planned → IsOrderOf lib main planned
+planned_orders lib f main before (plans.Faulty diagnostics) is = tt
+planned_orders lib f main before (plans.Unbound fault) is = tt
+planned_orders lib f main before (plans.Linkable p) is = is.1.ordered
+planned_orders lib f main before (plans.Renewed r) is = tt

@@ -1,11 +1,14 @@
 -- Which units files hold that were edited.
-use Rattle.std.specs.Prelude.{◌≡◌, ℕ, true, false, List, None}
+use Rattle.std.specs.Prelude.{◌≡◌, ℕ, true, false, List, [], Some, None, map}
 use Rattle.std.specs.List.{Contains}
-use Rattle.al_base.specs.Batch.{key_of}
-use Rattle.al_base.specs.FileNames.{file_name_of}
+use Rattle.al_base.specs.Batch.{Finding}
+use Rattle.al_unit_faults.specs.FilesSeen.{file_faults_model}
+use Rattle.al_engine.specs.Texts.{may_differ}
+use Rattle.al_engine.specs.declared.alike.Edited.{Edited}
 use Rattle.al_base.specs.declared.unit_key.UnitKey.{UnitKey}
-use Rattle.al_unit_graph.specs.Headers.{Library}
-use Rattle.al_unit_graph.specs.Library.{is_unit}
+use Rattle.al_unit_graph.specs.Headers.{Header, Library, key_of_unit}
+use Rattle.al_unit_graph.specs.Library.{unit_in}
+use Rattle.al_query_outcome.specs.Equations.{unit_named}
 use Rattle.al_query_store.specs.Units.{at_unit}
 use Rattle.al_query.specs.Known.{has_unit}
 use Rattle.std.specs.Prelude.{Option}
@@ -15,9 +18,9 @@ use Rattle.al_engine_refresh.specs.Builds.{text_of}
 use Rattle.al_engine.specs.RecheckEdits.{IsForAnother, units_of}
 use Rattle.al_engine.specs.declared.edited.EditedUnit.{EditedUnit}
 
--- no other unit of the library wants this file
-abbrev pub HoldsAlone : Library → List ℕ → UnitKey → Type 0
-HoldsAlone lib file unit = (w : UnitKey) → is_unit lib (key_of w) ≡ true → file_name_of (key_of w) ≡ file → unit ≡ w
+-- this is the unit that the file holds
+abbrev pub Holds : Library → List ℕ → UnitKey → Type 0
+Holds lib file unit = (h : Header) × (unit_in lib file ≡ Some h) × (unit ≡ unit_named (key_of_unit h))
 
 -- an edited unit: it has an entry for another text than it has now, and no unit depends on it by itself unless it is said to be a base
 pub record IsEntered (lib : Library) (entries : UnitKey → Option Stored) (graph : UnitGraph) (e : EditedUnit) : Type 0 where
@@ -26,9 +29,18 @@ pub record IsEntered (lib : Library) (entries : UnitKey → Option Stored) (grap
 
 -- and it is the one that this file holds
 abbrev pub IsEdited : Library → (UnitKey → Option Stored) → UnitGraph → List ℕ → EditedUnit → Type 0
-IsEdited lib entries graph file e = HoldsAlone lib file e.unit × IsEntered lib entries graph e
+IsEdited lib entries graph file e = Holds lib file e.unit × IsEntered lib entries graph e
 
 -- these are the edited units that these files hold
 pub record AreEditedIn (lib : Library) (entries : UnitKey → Option Stored) (graph : UnitGraph) (files : List (List ℕ)) (edits : List EditedUnit) : Type 0 where
-  pub holds : (w : UnitKey) → is_unit lib (key_of w) ≡ true → Contains files (file_name_of (key_of w)) → has_unit (units_of edits) w ≡ true
+  pub holds : (file : List ℕ) → Contains files file → (h : Header) × (unit_in lib file ≡ Some h) × (has_unit (units_of edits) (unit_named (key_of_unit h)) ≡ true)
   pub each : (e : EditedUnit) → Contains edits e → IsEntered lib entries graph e
+
+-- no file breaks a rule of the graph, and of no unit it is told that it isn't reached
+pub record HasReachedAll (graph : UnitGraph) (found : List Finding) : Type 0 where
+  pub none : (f : List ℕ × List Finding) → Contains (map file_faults_model graph.faults.items) f → f.1 ≡ []
+  pub reached : (f : Finding) → Contains found f → f.code ≡ 208 → ⊥
+
+-- what was found is in the edited files alone
+abbrev pub AreIn : Edited → List Finding → Type 0
+AreIn edited found = (f : Finding) → Contains found f → may_differ edited f.file

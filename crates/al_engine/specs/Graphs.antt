@@ -1,19 +1,31 @@
 -- What of a build's graph a later one can take over.
-use Rattle.std.specs.Prelude.{ℕ, ◌≡◌, List, Option, Some, IfSome, map}
+use Rattle.std.specs.Prelude.{ℕ, ⊤, List, Option, IfSome, map}
+use Rattle.std.specs.List.{Contains}
 use Rattle.al_base.specs.Batch.{key_of}
 use Rattle.al_base.specs.Files.{Texts}
-use Rattle.al_base.specs.declared.unit_key.UnitKey.{UnitKey}
 use Rattle.al_unit_graph.specs.Headers.{Library}
 use Rattle.al_bind.specs.Binding.{IsElaboration}
-use Rattle.al_engine.specs.declared.compiled.Compiled.{Compiled}
 use Rattle.al_engine.specs.Kept.{IsGraphOf}
 use Rattle.al_engine.specs.declared.graph.UnitGraph.{UnitGraph}
-use Rattle.al_engine.specs.Gave.{order_of}
+use Rattle.al_engine.specs.declared.orders.KnownOrder.{KnownOrder}
+use Rattle.al_engine.specs.declared.planned.Planned.{Planned}
+use Rattle.al_engine.specs.declared.planned.Planned.TheVariants.{Faulty, Unbound, Linkable, Renewed}
 
--- an order that compiling gave is one of elaboration
-abbrev pub IsOrdered : Library → List ℕ → Compiled → Type 0
-IsOrdered lib main compiled = (order : List UnitKey) → order_of compiled ≡ Some order → IsElaboration lib main (map key_of order)
+-- each of these is an order of elaboration for its main unit
+abbrev pub AreElaborations : Library → List KnownOrder → Type 0
+AreElaborations lib orders = (o : KnownOrder) → Contains orders o → IsElaboration lib o.main (map key_of o.order.items)
 
--- the graph that is kept is that of the files of the last build
-abbrev pub KeepsGraph : (Texts → Library) → Option (Texts × UnitGraph) → Type 0
-KeepsGraph library remembered = IfSome remembered (λ k. IsGraphOf (library k.0) k.1)
+-- the order of a partition that is to be linked is one of elaboration
+abbrev pub IsOrderOf : Library → List ℕ → Planned → Type 0
+IsOrderOf lib main (Faulty diagnostics) = ⊤
+IsOrderOf lib main (Unbound fault) = ⊤
+IsOrderOf lib main (Linkable p) = IsElaboration lib main (map key_of p.order.items)
+IsOrderOf lib main (Renewed r) = ⊤
+
+-- what is remembered of the last build's files: what was read, their graph, and orders of elaboration
+abbrev pub Remembered : Type 0
+Remembered = Texts × UnitGraph × List KnownOrder
+
+-- the graph that is kept is that of the files of the last build, and the orders are of these
+abbrev pub KeepsGraph : (Texts → Library) → Option Remembered → Type 0
+KeepsGraph library remembered = IfSome remembered (λ k. IsGraphOf (library k.0) k.1 × AreElaborations (library k.0) k.2)

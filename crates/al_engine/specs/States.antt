@@ -19,8 +19,7 @@ use Rattle.al_link.specs.Relinking.{LinkedImage}
 use Rattle.al_engine.specs.Batches.{IsCompiled}
 use Rattle.al_engine.specs.Patches.{linked_in}
 use Rattle.al_engine.specs.declared.compiled.Compiled.{Compiled}
-use Rattle.al_engine.specs.declared.graph.UnitGraph.{UnitGraph}
-use Rattle.al_engine.specs.Graphs.{KeepsGraph}
+use Rattle.al_engine.specs.Graphs.{KeepsGraph, Remembered}
 use Rattle.al_engine.specs.Rebuilds.{IsRebuilt}
 use Rattle.al_engine.specs.declared.rebuilding.Rebuilt.{Rebuilt}
 
@@ -61,7 +60,7 @@ IsOfNow files main None = ⊥
 IsOfNow files main (Some b) = (b.files ≡ files) × (b.main ≡ main)
 
 -- what every library keeps, beside the law of its entries
-pub record IsRight (meaning : TextMeaning) (header : List ℕ → Header) (predefined : Query → AnswerKind) (library : Texts → Library) (files : Texts) (store : Entries) (is_edited : Bool) (graph : Option (Texts × UnitGraph)) (built : Option Built) (gave : Compiled) : Type 0 where
+pub record IsRight (meaning : TextMeaning) (header : List ℕ → Header) (predefined : Query → AnswerKind) (library : Texts → Library) (files : Texts) (store : Entries) (is_edited : Bool) (graph : Option Remembered) (built : Option Built) (gave : Compiled) : Type 0 where
   pub read : AreReadFor header library
   pub predefined_units : ArePredefined predefined
   pub built_right : IsBuiltRight meaning header predefined library built

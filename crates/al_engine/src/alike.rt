@@ -1,5 +1,7 @@
 // Whether two libraries have the same headers, and of which files the texts differ.
 ghost use Rattle.std.specs.Prelude.{◌≡◌, ◌∷◌, [], ℕ, false, List, IfOk, IfSome, IsTrue, OnOk, Some, map};
+ghost use Rattle.std.specs.Bool.{Decides};
+ghost use Rattle.std.specs.List.{Contains};
 ghost use Rattle.std.specs.Map.{keys_of};
 ghost use Rattle.al_unit_graph.specs.Views.{contents_model};
 ghost use Rattle.al_engine.specs.GraphGraphs.{HaveSameHeaders, contents_at, unplaced_contents};
@@ -38,6 +40,27 @@ impl Edited {
         let mut edited = Edited::nothing(alloc);
         edited.files.push(Name::from_slice(alloc, file)?)?;
         Ok(edited)
+    }
+}
+
+/// Whether a file is among these.
+fn is_among(files: &[Name], file: &[u8]) -> bool
+    ensures { Decides result (Contains files.now file.now) }
+{
+    for name in files {
+        if name.as_slice() == file {
+            return true;
+        }
+    }
+    false
+}
+
+impl Edited {
+    /// Whether a file may have another text.
+    pub fn has(&self, file: &[u8]) -> bool
+        ensures { Decides result (may_differ self.now file.now) }
+    {
+        is_among(self.files.as_slice(), file)
     }
 }
 

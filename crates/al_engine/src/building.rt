@@ -16,16 +16,18 @@ ghost use Rattle.al_engine.specs.Batches.{IsCompiled};
 ghost use Rattle.al_engine.specs.Patches.{IsPatched, linked_in};
 ghost use Rattle.al_engine.specs.Prepared.{IsPrepared};
 ghost use Rattle.al_engine.specs.Rebuilds.{IsKept, IsRebuilt};
-ghost use Rattle.al_engine.specs.Graphs.{IsOrdered};
+ghost use Rattle.al_engine.specs.Graphs.{AreElaborations};
 ghost use Rattle.al_engine.specs.States.{AreReadFor, IsSettledBy};
 
 use crate::edits::edited_now;
-use crate::graphs::{alike, graph_now, order_now};
+use crate::graphs::{alike, graph_now, is_same_main, order_now, orders_now};
 use crate::last_build::LastBuild;
+use crate::orders::KnownOrder;
 use crate::read_files::ReadFiles;
 use crate::rebuild_laws::rebuilds_are_compiled;
 use crate::{
-    Compiled, Edited, PreparedBuild, Rebuilt, UnitCache, UnitGraph, files_reported, prepare,
+    Compiled, Edited, PreparedBuild, Rebuilt, Standing, UnitCache, UnitGraph, files_reported,
+    prepare,
 };
 use al_base::{Files, Name, NoMemory, UnitKey};
 use al_query::Answers;
@@ -34,10 +36,11 @@ use al_unit_faults::obsolete;
 use std::alloc::Global;
 use std::rc::Rc;
 
-/// A build that is done but for its image, with the graph of its units.
+/// A build that is done but for its image, with the graph of its units and orders of elaboration.
 #[derive(Drop)]
 struct Begun {
     graph: Rc<UnitGraph>,
+    orders: Vec<Rc<KnownOrder>>,
     prepared: PreparedBuild,
 }
 
@@ -55,11 +58,12 @@ fn begin<R: ReadFiles, C: UnitCheck, P: Answers>(
 ) -> Result<Begun, NoMemory>
     requires reading { AreReadFor C.Text.header R.library }
     requires predefined { ArePredefined (P.table predefined.now) }
-    requires last { IfSome last.now (λ b. IsGraphOf (R.library (R.files b.read)) b.graph.value × IsOrdered (R.library (R.files b.read)) b.main gave.now.compiled) }
+    requires last { IfSome last.now (λ b. IsGraphOf (R.library (R.files b.read)) b.graph.value × AreElaborations (R.library (R.files b.read)) (map (λ o. o.value) b.orders.items)) }
     requires ready { AreReady (P.table predefined.now) cache.old.store }
     requires settled { IfSome last.now (λ b. IsSettledBy C.meaning C.Text.header (P.table predefined.now) R.library cache.old.store (record { files = R.files b.read; main = b.main; gave = gave.now })) }
     requires edited { IfSome edited (λ e. IfSome last.now (λ b. HaveSameHeaders (R.library (R.files b.read)) (R.library (R.files read.now)) × HaveTextsBut (R.library (R.files b.read)) (R.library (R.files read.now)) e)) }
     ensures graph { IfOk result (λ b. IsGraphOf (R.library (R.files read.now)) b.graph.value) }
+    ensures orders { IfOk result (λ b. AreElaborations (R.library (R.files read.now)) (map (λ o. o.value) b.orders.items)) }
     ensures prepared { IfOk result (λ b. IsPrepared C.meaning C.Text.header (P.table predefined.now) (R.library (R.files read.now)) main.now gave.now.compiled cache.old.store b.prepared.planned cache.new.store b.prepared.checked.items b.prepared.compared) }
     ensures counted { IfOk result (λ b. C.count cache.new.checker ≡ raised (C.count cache.old.checker) (length b.prepared.checked.items)) }
     ensures left { IsLeft cache.old.store cache.new.store }
@@ -67,8 +71,13 @@ fn begin<R: ReadFiles, C: UnitCheck, P: Answers>(
     let found = alike(alloc, read, last, edited);
     let (same, edited) = found;
     let graph = graph_now(alloc, read, same)?;
-    let order = order_now(main, read, same, gave);
-    let edits = edited_now(alloc, cache, predefined, read, same, &edited, gave)?;
+    let order = order_now(main, read, same);
+    let known = edited_now(alloc, cache, predefined, read, same, &edited, gave)?;
+    let (edits, is_clean) = known;
+    let standing = Standing {
+        is_clean,
+        has_partition: is_same_main(main, same),
+    };
     let sources = read.sources();
     let prepared = prepare(
         alloc,
@@ -79,9 +88,15 @@ fn begin<R: ReadFiles, C: UnitCheck, P: Answers>(
         &graph,
         order,
         &edits,
+        standing,
         &gave.compiled,
     )?;
-    Ok(Begun { graph, prepared })
+    let orders = orders_now(alloc, main, read, same, order.is_some(), &prepared.planned)?;
+    Ok(Begun {
+        graph,
+        orders,
+        prepared,
+    })
 }
 
 /// Builds a main unit of files that are read, over what is kept of the units and what the last build gave. It may be known of which files
@@ -98,12 +113,13 @@ fn build_read<R: ReadFiles, C: UnitCheck, P: Answers>(
 ) -> Result<LastBuild<R>, NoMemory>
     requires reading { AreReadFor C.Text.header R.library }
     requires predefined { ArePredefined (P.table predefined.now) }
-    requires last { IfSome last.now (λ b. IsGraphOf (R.library (R.files b.read)) b.graph.value × IsOrdered (R.library (R.files b.read)) b.main gave.old.compiled) }
+    requires last { IfSome last.now (λ b. IsGraphOf (R.library (R.files b.read)) b.graph.value × AreElaborations (R.library (R.files b.read)) (map (λ o. o.value) b.orders.items)) }
     requires ready { AreReady (P.table predefined.now) cache.old.store }
     requires settled { IfSome last.now (λ b. IsSettledBy C.meaning C.Text.header (P.table predefined.now) R.library cache.old.store (record { files = R.files b.read; main = b.main; gave = gave.old })) }
     requires edited { IfSome edited (λ e. IfSome last.now (λ b. HaveSameHeaders (R.library (R.files b.read)) (R.library (R.files read)) × HaveTextsBut (R.library (R.files b.read)) (R.library (R.files read)) e)) }
     ensures files { IfOk result (λ b. R.files b.read ≡ R.files read) }
     ensures graph { IfOk result (λ b. IsGraphOf (R.library (R.files b.read)) b.graph.value) }
+    ensures orders { IfOk result (λ b. AreElaborations (R.library (R.files b.read)) (map (λ o. o.value) b.orders.items)) }
     ensures main { IfOk result (λ b. b.main ≡ main.now) }
     ensures rebuilt { OnOk result ((is : IsRebuilt C.meaning C.Text.header (P.table predefined.now) (R.library (R.files read)) main.now (settled_at cache.old.store) (settled_at cache.new.store) gave.new) × IsKept (P.table predefined.now) (R.library (R.files read)) cache.old.store cache.new.store is.made gave.new) }
     ensures right { IfOk result (λ b. IsCompiled C.meaning (setting_of C.Text.header (P.table predefined.now) (R.library (R.files b.read))) b.main gave.new.compiled) }
@@ -114,12 +130,17 @@ fn build_read<R: ReadFiles, C: UnitCheck, P: Answers>(
     rebuilds_are_compiled();
     let name = Name::from_slice(alloc, main)?;
     let begun = begin(alloc, cache, predefined, last, gave, &read, edited, main)?;
-    let Begun { graph, prepared } = begun;
+    let Begun {
+        graph,
+        orders,
+        prepared,
+    } = begun;
     prepared.finish(alloc, cache, gave)?;
     Ok(LastBuild {
         read,
         graph,
         main: name,
+        orders,
     })
 }
 
@@ -136,12 +157,13 @@ pub(crate) fn build_or_cancel<R: ReadFiles, C: UnitCheck, P: Answers>(
 ) -> Result<LastBuild<R>, NoMemory>
     requires reading { AreReadFor C.Text.header R.library }
     requires predefined { ArePredefined (P.table predefined.now) }
-    requires last { IfSome last.now (λ b. IsGraphOf (R.library (R.files b.read)) b.graph.value × IsOrdered (R.library (R.files b.read)) b.main gave.old.compiled) }
+    requires last { IfSome last.now (λ b. IsGraphOf (R.library (R.files b.read)) b.graph.value × AreElaborations (R.library (R.files b.read)) (map (λ o. o.value) b.orders.items)) }
     requires ready { AreReady (P.table predefined.now) cache.old.store }
     requires settled { IfSome last.now (λ b. IsSettledBy C.meaning C.Text.header (P.table predefined.now) R.library cache.old.store (record { files = R.files b.read; main = b.main; gave = gave.old })) }
     requires edited { IfSome edited (λ e. IfSome last.now (λ b. HaveSameHeaders (R.library (R.files b.read)) (R.library (R.files read)) × HaveTextsBut (R.library (R.files b.read)) (R.library (R.files read)) e)) }
     ensures files { IfOk result (λ b. R.files b.read ≡ R.files read) }
     ensures graph { IfOk result (λ b. IsGraphOf (R.library (R.files b.read)) b.graph.value) }
+    ensures orders { IfOk result (λ b. AreElaborations (R.library (R.files b.read)) (map (λ o. o.value) b.orders.items)) }
     ensures main { IfOk result (λ b. b.main ≡ main.now) }
     ensures rebuilt { OnOk result ((is : IsRebuilt C.meaning C.Text.header (P.table predefined.now) (R.library (R.files read)) main.now (settled_at cache.old.store) (settled_at cache.new.store) gave.new) × IsKept (P.table predefined.now) (R.library (R.files read)) cache.old.store cache.new.store is.made gave.new) }
     ensures right { IfOk result (λ b. IsCompiled C.meaning (setting_of C.Text.header (P.table predefined.now) (R.library (R.files b.read))) b.main gave.new.compiled) }

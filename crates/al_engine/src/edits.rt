@@ -1,6 +1,8 @@
 // Which units alone were edited since the last build.
-ghost use Rattle.std.specs.Prelude.{◌≡◌, false, true, None, IfOk, IfSome, IsTrue};
-ghost use Rattle.std.specs.Option.{is_some};
+ghost use Rattle.std.specs.Prelude.{◌≡◌, ℕ, [], List, false, None, IfOk, IfSome, IsTrue, map};
+ghost use Rattle.std.specs.List.{Contains};
+ghost use Rattle.al_base.specs.Batch.{Finding, finding_of};
+ghost use Rattle.al_unit_faults.specs.FilesSeen.{file_faults_model};
 ghost use Rattle.al_unit_graph.specs.Headers.{key_of_unit};
 ghost use Rattle.al_unit_graph.specs.Views.{header_model};
 ghost use Rattle.al_query_outcome.specs.Equations.{unit_named};
@@ -14,18 +16,18 @@ ghost use Rattle.al_engine_refresh.specs.Settings.{ArePredefined};
 ghost use Rattle.al_engine.specs.RecheckEdits.{AreEdits, IsForAnother, units_of};
 ghost use Rattle.al_engine.specs.BatchRenewals.{KeepsPartition};
 ghost use Rattle.al_engine.specs.Renewed.{IsCleanBut};
-ghost use Rattle.al_engine.specs.Gave.{order_of};
-ghost use Rattle.al_engine.specs.Edits.{AreEditedIn, HoldsAlone, IsEdited};
+ghost use Rattle.al_engine.specs.Edits.{AreEditedIn, AreIn, HasReachedAll, Holds, IsEdited};
 ghost use Rattle.al_engine.specs.States.{AreReadFor, IsSettledBy};
 
 use crate::graph_laws::graphs_go_by_headers;
 use crate::last_build::LastBuild;
 use crate::read_files::ReadFiles;
-use crate::{Edited, EditedUnit, Rebuilt, UnitCache, UnitGraph, order_of};
-use al_base::{Name, NoMemory, UnitKey};
+use crate::{Edited, EditedUnit, Rebuilt, UnitCache, UnitGraph, diagnostics_of};
+use al_base::{Diagnostic, Name, NoMemory, UnitKey};
 use al_engine_refresh::order_laws::order_is_for_builds;
 use al_query::Answers;
 use al_query_outcome::UnitCheck;
+use al_unit_faults::FileFaults;
 use al_unit_graph::{Header, Sources, kind_of};
 use std::alloc::Global;
 
@@ -41,7 +43,7 @@ fn unit_of(alloc: Global, header: &Header) -> Result<UnitKey, NoMemory>
 
 /// The unit that a file holds.
 fn unit_in(alloc: Global, sources: &Sources, file: &[u8]) -> Result<Option<UnitKey>, NoMemory>
-    ensures { IfOk result (λ found. IfSome found (λ unit. HoldsAlone sources.now file.now unit)) }
+    ensures { IfOk result (λ found. IfSome found (λ unit. Holds sources.now file.now unit)) }
 {
     match sources.unit_in(file) {
         Some(header) => Ok(Some(unit_of(alloc, header)?)),
@@ -49,14 +51,47 @@ fn unit_in(alloc: Global, sources: &Sources, file: &[u8]) -> Result<Option<UnitK
     }
 }
 
-/// Whether a build gave an order of elaboration: then it found nothing wrong.
-fn is_ordered(gave: &Rebuilt) -> bool
-    ensures { IsTrue result → is_some (order_of gave.now.compiled) ≡ true }
+/// Whether no file breaks a rule of the graph.
+fn break_none(faults: &[FileFaults]) -> bool
+    ensures { IsTrue result → ((f : List ℕ × List Finding) → Contains (map file_faults_model faults.now) f → f.1 ≡ []) }
 {
-    match order_of(&gave.compiled) {
-        Some(_) => true,
-        None => false,
+    for file in faults {
+        if !file.faults.is_empty() {
+            return false;
+        }
     }
+    true
+}
+
+/// Whether it isn't told of a unit that it isn't reached.
+fn are_reached(found: &[Diagnostic]) -> bool
+    ensures { IsTrue result → ((f : Finding) → Contains (map finding_of found.now) f → f.code ≡ 208 → ⊥) }
+{
+    for diagnostic in found {
+        if diagnostic.code == 208 {
+            return false;
+        }
+    }
+    true
+}
+
+/// Whether a build of files with this graph, which found this, reached each unit.
+fn has_reached_all(graph: &UnitGraph, found: &[Diagnostic]) -> bool
+    ensures { IsTrue result → HasReachedAll graph.now (map finding_of found.now) }
+{
+    break_none(graph.faults.as_slice()) && are_reached(found)
+}
+
+/// Whether what was found is in the edited files alone.
+fn are_in(found: &[Diagnostic], edited: &Edited) -> bool
+    ensures { IsTrue result → AreIn edited.now (map finding_of found.now) }
+{
+    for diagnostic in found {
+        if !edited.has(diagnostic.file.as_slice()) {
+            return false;
+        }
+    }
+    true
 }
 
 /// The unit, and whether another one depends on it by itself, where it has an entry for another text than it has now.
@@ -114,7 +149,7 @@ fn edited_units<C: UnitCheck>(
 }
 
 /// The units that alone were edited since the last build, and whether another one depends on each by itself; none where more was edited, or
-/// where that build found something wrong.
+/// where that build didn't reach each unit. And whether it found nothing wrong but in these.
 pub(crate) fn edited_now<R: ReadFiles, C: UnitCheck, P: Answers>(
     alloc: Global,
     cache: &UnitCache<C>,
@@ -123,26 +158,28 @@ pub(crate) fn edited_now<R: ReadFiles, C: UnitCheck, P: Answers>(
     same: Option<&LastBuild<R>>,
     edited: &Edited,
     gave: &Rebuilt,
-) -> Result<Option<Vec<EditedUnit>>, NoMemory>
+) -> Result<(Option<Vec<EditedUnit>>, bool), NoMemory>
     requires reading { AreReadFor C.Text.header R.library }
     requires predefined { ArePredefined (P.table predefined.now) }
     requires graph { IfSome same (λ b. IsGraphOf (R.library (R.files b.now.read)) b.now.graph.value) }
     requires settled { IfSome same (λ b. IsSettledBy C.meaning C.Text.header (P.table predefined.now) R.library cache.now.store (record { files = R.files b.now.read; main = b.now.main; gave = gave.now })) }
     requires headers { IfSome same (λ b. HaveSameGraph (R.library (R.files b.now.read)) (R.library (R.files read.now))) }
     requires texts { IfSome same (λ b. HaveTextsBut (R.library (R.files b.now.read)) (R.library (R.files read.now)) edited.now) }
-    ensures renewable { IfOk result (λ found. IfSome found (λ edits. AreEdits C.meaning C.Text.header (P.table predefined.now) (R.library (R.files read.now)) cache.now.store edits.items)) }
-    ensures clean { IfOk result (λ found. IfSome found (λ edits. IsCleanBut (R.library (R.files read.now)) (settled_at cache.now.store) (units_of edits.items))) }
-    ensures partition { IfOk result (λ found. IfSome found (λ _. IfSome same.entry (λ b. KeepsPartition (R.library (R.files read.now)) (results_of (settled_at cache.now.store)) b.now.main gave.now.compiled))) }
+    ensures renewable { IfOk result (λ found. IfSome found.0 (λ edits. AreEdits C.meaning C.Text.header (P.table predefined.now) (R.library (R.files read.now)) cache.now.store edits.items)) }
+    ensures clean { IfOk result (λ found. IsTrue found.1 → IfSome found.0 (λ edits. IsCleanBut (R.library (R.files read.now)) (settled_at cache.now.store) (units_of edits.items))) }
+    ensures partition { IfOk result (λ found. IfSome found.0 (λ _. IfSome same.entry (λ b. KeepsPartition (R.library (R.files read.now)) (results_of (settled_at cache.now.store)) b.now.main gave.now.compiled))) }
 {
     order_is_for_builds();
     graphs_go_by_headers();
     let _predefined = predefined;
     let Some(build) = same else {
-        return Ok(None);
+        return Ok((None, false));
     };
-    if !is_ordered(gave) {
-        return Ok(None);
+    let found = diagnostics_of(&gave.compiled);
+    if !has_reached_all(&build.graph, found) {
+        return Ok((None, false));
     }
     let sources = read.sources();
-    edited_units(alloc, cache, sources, &build.graph, edited.files.as_slice())
+    let edits = edited_units(alloc, cache, sources, &build.graph, edited.files.as_slice())?;
+    Ok((edits, are_in(found, edited)))
 }

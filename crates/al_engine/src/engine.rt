@@ -64,6 +64,7 @@ impl<R: ReadFiles, C: UnitCheck + Drop, P: Answers + Drop> Drop for Engine<R, C,
 }
 
 impl<R: ReadFiles, C: UnitCheck, P: Answers> Model for Engine<R, C, P> {
+    ghost use Rattle.std.specs.Prelude.{map};
     ghost use Rattle.std.specs.Option.{option_map};
     ghost use Rattle.std.specs.Coded.{codes};
     ghost use Rattle.al_view_typed.specs.contracts.expression.Typed as expression;
@@ -77,7 +78,7 @@ impl<R: ReadFiles, C: UnitCheck, P: Answers> Model for Engine<R, C, P> {
 
     ghost view = { λ e. record { cache = e.cache; predefined = e.predefined; files = e.files; built = option_map (λ b. record { files = R.files b.read; main = b.main; gave = e.gave }) e.last } };
 
-    ghost invariant = { λ e. IsRight C.meaning C.Text.header (P.table e.predefined) R.library e.files e.cache.store e.is_edited (option_map (λ b. (R.files b.read, b.graph.value)) e.last) (option_map (λ b. record { files = R.files b.read; main = b.main; gave = e.gave }) e.last) e.gave.compiled × IsReadTwice e.files (option_map (λ b. R.files b.read) e.last) (option_map R.files e.spare) e.alone };
+    ghost invariant = { λ e. IsRight C.meaning C.Text.header (P.table e.predefined) R.library e.files e.cache.store e.is_edited (option_map (λ b. (R.files b.read, b.graph.value, map (λ o. o.value) b.orders.items)) e.last) (option_map (λ b. record { files = R.files b.read; main = b.main; gave = e.gave }) e.last) e.gave.compiled × IsReadTwice e.files (option_map (λ b. R.files b.read) e.last) (option_map R.files e.spare) e.alone };
 }
 
 impl<R: ReadFiles, C: UnitCheck, P: Answers> Engine<R, C, P> {

@@ -7,35 +7,24 @@ ghost use Rattle.al_unit_faults.specs.FilesSeen.{file_faults_model};
 ghost use Rattle.al_bind.specs.Binding.{IsElaboration};
 ghost use Rattle.al_engine.specs.GraphGraphs.{HaveSameGraph, HaveSameHeaders};
 ghost use Rattle.al_engine.specs.Kept.{IsGraphOf};
+ghost use Rattle.al_engine.specs.Graphs.{AreElaborations, IsOrderOf};
 ghost use Rattle.al_engine.specs.Texts.{HaveTextsBut, IsKeptFault};
-ghost use Rattle.al_engine.specs.Graphs.{IsOrdered};
 
 use crate::graph_laws::graphs_go_by_headers;
 use crate::last_build::LastBuild;
+use crate::orders::{KnownOrder, add_order, order_of, shared_orders};
 use crate::read_files::ReadFiles;
-use crate::{Edited, Rebuilt, UnitGraph, order_of};
+use crate::{Edited, Planned, UnitGraph};
 use al_base::{Name, NoMemory, UnitKey};
 use al_unit_faults::FileFaults;
 use std::alloc::Global;
 use std::rc::Rc;
 
-/// Whether a file is among these.
-fn is_among(files: &[Name], file: &[u8]) -> bool
-    ensures { Contains files.now file.now → IsTrue result }
-{
-    for name in files {
-        if name.as_slice() == file {
-            return true;
-        }
-    }
-    false
-}
-
 /// Whether what is wrong with a file as a unit stays where these were edited: nothing is, or its text is as it was.
 fn is_kept(faults: &FileFaults, edited: &Edited) -> bool
     ensures { IsTrue result → IsKeptFault edited.now (file_faults_model faults.now) }
 {
-    faults.faults.is_empty() || !is_among(edited.files.as_slice(), faults.file.as_slice())
+    faults.faults.is_empty() || !edited.has(faults.file.as_slice())
 }
 
 /// Whether none of the edited files breaks a rule of the graph.
@@ -114,25 +103,68 @@ pub(crate) fn graph_now<R: ReadFiles>(
     }
 }
 
-/// The order of elaboration that a build gave whose files have the same graph, where it was of this main unit.
+/// The order of elaboration for this main unit that is known of a build whose files have the same graph.
 pub(crate) fn order_now<'a, R: ReadFiles>(
     main: &[u8],
     read: &R,
-    alike: Option<&LastBuild<R>>,
-    gave: &'a Rebuilt,
+    alike: Option<&'a LastBuild<R>>,
 ) -> Option<&'a [UnitKey]>
-    requires { IfSome alike (λ b. IsOrdered (R.library (R.files b.now.read)) b.now.main gave.now.compiled × HaveSameGraph (R.library (R.files b.now.read)) (R.library (R.files read.now))) }
-    ensures order { IfSome result (λ order. IsElaboration (R.library (R.files read.now)) main.now (map key_of order.now)) }
-    ensures main { IfSome result (λ _. MatchOption alike.entry ⊥ (λ b. b.now.main ≡ main.now)) }
+    requires { IfSome alike (λ b. AreElaborations (R.library (R.files b.now.read)) (map (λ o. o.value) b.now.orders.items) × HaveSameGraph (R.library (R.files b.now.read)) (R.library (R.files read.now))) }
+    ensures { IfSome result (λ order. IsElaboration (R.library (R.files read.now)) main.now (map key_of order.now)) }
 {
     graphs_go_by_headers();
     let _read = read;
     let Some(build) = alike else {
         return None;
     };
-    if build.main.as_slice() == main {
-        order_of(&gave.compiled)
-    } else {
-        None
+    order_of(build.orders.as_slice(), main)
+}
+
+/// Whether the last build, whose files have the same graph, was of this main unit.
+pub(crate) fn is_same_main<R>(main: &[u8], alike: Option<&LastBuild<R>>) -> bool
+    ensures { IsTrue result → MatchOption alike.entry ⊥ (λ b. b.now.main ≡ main.now) }
+{
+    match alike {
+        Some(build) => build.main.as_slice() == main,
+        None => false,
     }
+}
+
+/// The orders that are known of a build whose files have the same graph; none where there is no such build.
+fn known_orders<R: ReadFiles>(
+    alloc: Global,
+    read: &R,
+    alike: Option<&LastBuild<R>>,
+) -> Result<Vec<Rc<KnownOrder>>, NoMemory>
+    requires { IfSome alike (λ b. AreElaborations (R.library (R.files b.now.read)) (map (λ o. o.value) b.now.orders.items) × HaveSameGraph (R.library (R.files b.now.read)) (R.library (R.files read.now))) }
+    ensures { IfOk result (λ orders. AreElaborations (R.library (R.files read.now)) (map (λ o. o.value) orders.items)) }
+{
+    graphs_go_by_headers();
+    let _read = read;
+    let Some(build) = alike else {
+        return Ok(Vec::new(alloc));
+    };
+    let orders = shared_orders(alloc, build.orders.as_slice())?;
+    Ok(orders)
+}
+
+/// The orders that are known of a build whose files have the same graph, with that of a partition that is to be linked.
+pub(crate) fn orders_now<R: ReadFiles>(
+    alloc: Global,
+    main: &[u8],
+    read: &R,
+    alike: Option<&LastBuild<R>>,
+    is_known: bool,
+    planned: &Planned,
+) -> Result<Vec<Rc<KnownOrder>>, NoMemory>
+    requires known { IfSome alike (λ b. AreElaborations (R.library (R.files b.now.read)) (map (λ o. o.value) b.now.orders.items) × HaveSameGraph (R.library (R.files b.now.read)) (R.library (R.files read.now))) }
+    requires planned { IsOrderOf (R.library (R.files read.now)) main.now planned.now }
+    ensures { IfOk result (λ orders. AreElaborations (R.library (R.files read.now)) (map (λ o. o.value) orders.items)) }
+{
+    let mut orders = known_orders(alloc, read, alike)?;
+    if is_known {
+        return Ok(orders);
+    }
+    add_order(alloc, main, planned, &mut orders)?;
+    Ok(orders)
 }

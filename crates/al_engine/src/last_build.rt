@@ -2,6 +2,7 @@
 ghost use Rattle.std.specs.Prelude.{◌≡◌};
 
 use crate::UnitGraph;
+use crate::orders::KnownOrder;
 use al_base::Name;
 use std::rc::Rc;
 
@@ -10,6 +11,8 @@ pub(crate) struct LastBuild<R> {
     pub read: R,
     pub graph: Rc<UnitGraph>,
     pub main: Name,
+    /// Orders of elaboration of these files, of this main unit and of others, the latest last.
+    pub orders: Vec<Rc<KnownOrder>>,
 }
 
 impl<R: Drop> Drop for LastBuild<R> {
@@ -18,6 +21,7 @@ impl<R: Drop> Drop for LastBuild<R> {
             read: _,
             graph: _,
             main: _,
+            orders: _,
         } = self;
     }
 }
@@ -31,6 +35,7 @@ impl<R: Drop> LastBuild<R> {
             read,
             graph: _,
             main: _,
+            orders: _,
         } = self;
         read
     }

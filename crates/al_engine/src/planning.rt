@@ -27,7 +27,7 @@ use al_view::copied_unit;
 use std::alloc::Global;
 
 /// A copy of these units, in their order.
-fn copied(alloc: Global, units: &[UnitKey]) -> Result<Vec<UnitKey>, NoMemory>
+pub(crate) fn copied(alloc: Global, units: &[UnitKey]) -> Result<Vec<UnitKey>, NoMemory>
     ensures { IfOk result (λ copy. copy.items ≡ units.now) }
 {
     let mut copy = Vec::with_capacity(alloc, units.len())?;

@@ -81,6 +81,15 @@ impl Rebuilt {
     }
 }
 
+/// What of the last build, but for the edited units, is so in this one.
+#[derive(Clone, Copy)]
+pub struct Standing {
+    /// It found nothing wrong but in them.
+    pub is_clean: bool,
+    /// It was of this main unit.
+    pub has_partition: bool,
+}
+
 /// A build that is done but for the image: what is to be linked, the units that were checked, by unit and kind, and how many stored answers
 /// were compared.
 pub struct PreparedBuild {
@@ -120,10 +129,14 @@ fn are_sound(entries: &KeptEntries, edits: &[EditedUnit]) -> bool
     edits.iter().all(|edited| has_sound(entries, &edited.unit))
 }
 
-/// Whether some units alone have other entries than before, and these are without faults.
-fn is_clean(entries: &KeptEntries, renewed: Option<&[EditedUnit]>) -> bool
-    ensures { IsTrue result → MatchOption renewed.entry ⊥ (λ edits. (u : UnitKey) → has_unit (units_of edits.now) u ≡ true → is_sound (results_of (now_at entries.now) u) ≡ true) }
+/// Whether some units alone have other entries than before, these are without faults, and nothing else was wrong before.
+fn is_clean(entries: &KeptEntries, standing: Standing, renewed: Option<&[EditedUnit]>) -> bool
+    ensures clean { IsTrue result → IsTrue standing.is_clean }
+    ensures sound { IsTrue result → MatchOption renewed.entry ⊥ (λ edits. (u : UnitKey) → has_unit (units_of edits.now) u ≡ true → is_sound (results_of (now_at entries.now) u) ≡ true) }
 {
+    if !standing.is_clean {
+        return false;
+    }
     match renewed {
         Some(edits) => are_sound(entries, edits),
         None => false,
@@ -143,28 +156,29 @@ fn alone_in(renewed: Option<&[EditedUnit]>) -> Option<&UnitKey>
     }
 }
 
-/// What is to be linked where one unit alone has another entry than before, without faults, and the order of elaboration is known: all but the
-/// object of that unit is as in the last build. None where it isn't so.
+/// What is to be linked where one unit alone has another entry than before, without faults, and the last build has the partition: all but the
+/// object of that unit is as in that build. None where it isn't so.
 fn renewed_plan(
     alloc: Global,
     sources: &Sources,
     entries: &KeptEntries,
     main: &[u8],
-    known: Option<&[UnitKey]>,
+    has_partition: bool,
     unit: Option<&UnitKey>,
     before: &Compiled,
 ) -> Result<Option<Planned>, NoMemory>
     requires coded { AreCoded (now_at entries.now) }
     requires clean { findings_of sources.now (results_of (now_at entries.now)) ≡ [] }
     requires others { IfSome unit (λ u. (w : UnitKey) → same_unit u.now w ≡ false → now_at entries.now w ≡ settled_at entries.now w) }
-    requires partition { IfSome known (λ _. IfSome unit (λ _. KeepsPartition sources.now (results_of (settled_at entries.now)) main.now before.now)) }
+    requires partition { IsTrue has_partition → IfSome unit (λ _. KeepsPartition sources.now (results_of (settled_at entries.now)) main.now before.now) }
     ensures { IfOk result (λ found. IfSome found (IsPlanned sources.now (results_of (now_at entries.now)) main.now before.now)) }
 {
-    let Some(_order) = known else {
-        return Ok(None);
-    };
     match unit {
-        Some(unit) => renewed(alloc, sources, entries, main, before, unit),
+        Some(unit) => if has_partition {
+            renewed(alloc, sources, entries, main, before, unit)
+        } else {
+            Ok(None)
+        },
         None => Ok(None),
     }
 }
@@ -179,20 +193,22 @@ fn plan_now(
     main: &[u8],
     known: Option<&[UnitKey]>,
     edits: Option<&[EditedUnit]>,
+    standing: Standing,
     before: &Compiled,
 ) -> Result<Planned, NoMemory>
     requires faults { map file_faults_model faults.now ≡ map (λ file. (file, file_faults sources.now file)) (keys_of sources.now) }
     requires coded { AreCoded (now_at entries.now) }
     requires known { IfSome known (λ order. IsElaboration sources.now main.now (map key_of order.now)) }
-    requires clean { MatchOption edits ⊥ (λ e. (u : UnitKey) → has_unit (units_of e.now) u ≡ true → is_sound (results_of (now_at entries.now) u) ≡ true) → findings_of sources.now (results_of (now_at entries.now)) ≡ [] }
+    requires clean { IsTrue standing.is_clean → MatchOption edits ⊥ (λ e. (u : UnitKey) → has_unit (units_of e.now) u ≡ true → is_sound (results_of (now_at entries.now) u) ≡ true) → findings_of sources.now (results_of (now_at entries.now)) ≡ [] }
     requires others { IfSome edits (λ e. (w : UnitKey) → has_unit (units_of e.now) w ≡ false → now_at entries.now w ≡ settled_at entries.now w) }
-    requires partition { IfSome known (λ _. IfSome edits (λ _. KeepsPartition sources.now (results_of (settled_at entries.now)) main.now before.now)) }
+    requires partition { IsTrue standing.has_partition → IfSome edits (λ _. KeepsPartition sources.now (results_of (settled_at entries.now)) main.now before.now) }
     ensures { IfOk result (IsPlanned sources.now (results_of (now_at entries.now)) main.now before.now) }
 {
-    let clean = is_clean(entries, edits);
+    let clean = is_clean(entries, standing, edits);
     if clean {
         let unit = alone_in(edits);
-        let found = renewed_plan(alloc, sources, entries, main, known, unit, before)?;
+        let has_partition = standing.has_partition;
+        let found = renewed_plan(alloc, sources, entries, main, has_partition, unit, before)?;
         if let Some(planned) = found {
             return Ok(planned);
         }
@@ -203,8 +219,8 @@ fn plan_now(
 
 /// Does all of a build of a main unit but for its image: each unit is checked that is reached and has no entry for its text, or one with
 /// an answer that differs now, and what all units give then is compiled. The library's graph is given, and the order of elaboration
-/// where it is known; and the units that alone were edited since a build that found nothing wrong, and what compiling gave in that build. What the
-/// last build settled stays as it is.
+/// where it is known; and the units that alone were edited since a build that reached each unit, how that one stands to this, and what compiling
+/// gave in it. What the last build settled stays as it is.
 /// - `prepared`: which units were checked, what compiling gives up to the image, which entries there will be. Where there is something to
 ///   link, its units define the main subprogram's code and all that they use.
 /// - `counted`: so many checks were made.
@@ -222,6 +238,7 @@ pub fn prepare<C: UnitCheck, P: Answers>(
     graph: &UnitGraph,
     known: Option<&[UnitKey]>,
     edited: &Option<Vec<EditedUnit>>,
+    standing: Standing,
     before: &Compiled,
 ) -> Result<PreparedBuild, NoMemory>
     requires headed { AreHeaded C.Text.header sources.now }
@@ -231,8 +248,8 @@ pub fn prepare<C: UnitCheck, P: Answers>(
     requires known { IfSome known (λ order. IsElaboration sources.now main.now (map key_of order.now)) }
     requires ready { AreReady (P.table predefined.now) cache.old.store }
     requires edited { IfSome edited.now (λ edits. AreEdits C.meaning C.Text.header (P.table predefined.now) sources.now cache.old.store edits.items) }
-    requires clean { IfSome edited.now (λ edits. IsCleanBut sources.now (settled_at cache.old.store) (units_of edits.items)) }
-    requires partition { IfSome known (λ _. IfSome edited.now (λ _. KeepsPartition sources.now (results_of (settled_at cache.old.store)) main.now before.now)) }
+    requires clean { IsTrue standing.is_clean → IfSome edited.now (λ edits. IsCleanBut sources.now (settled_at cache.old.store) (units_of edits.items)) }
+    requires partition { IsTrue standing.has_partition → IfSome edited.now (λ _. KeepsPartition sources.now (results_of (settled_at cache.old.store)) main.now before.now) }
     ensures prepared { IfOk result (λ p. IsPrepared C.meaning C.Text.header (P.table predefined.now) sources.now main.now before.now cache.old.store p.planned cache.new.store p.checked.items p.compared) }
     ensures counted { IfOk result (λ p. C.count cache.new.checker ≡ raised (C.count cache.old.checker) (length p.checked.items)) }
     ensures left { IsLeft cache.old.store cache.new.store }
@@ -243,7 +260,9 @@ pub fn prepare<C: UnitCheck, P: Answers>(
     let (checked, compared) = given.into_parts();
     let faults = graph.faults.as_slice();
     let entries = cache.entries();
-    let planned = plan_now(alloc, sources, entries, faults, main, known, edits, before)?;
+    let planned = plan_now(
+        alloc, sources, entries, faults, main, known, edits, standing, before,
+    )?;
     Ok(PreparedBuild {
         planned,
         checked,

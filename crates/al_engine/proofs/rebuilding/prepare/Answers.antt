@@ -15,7 +15,7 @@ use Rattle.al_engine.specs.Rechecks.{IsUpdated}
 use Rattle.al_engine.specs.RecheckEdits.{units_of}
 use Rattle.al_engine.specs.declared.edited.EditedUnit.{EditedUnit}
 use Rattle.al_engine.proofs.RebuildClean.{AreSound, clean-now}
-use Rattle.al_engine.proofs.Left.{known-of, of-edited, others-left, renewed-by, settled-left}
+use Rattle.al_engine.proofs.Left.{of-edited, others-left, renewed-by, settled-left}
 use Rattle.al_engine.specs.Renewed.{IsCleanBut}
 use Rattle.al_engine.proofs.rebuilding.prepare.Goals as goal
 
@@ -26,12 +26,12 @@ pub plan_now-requires-clause-coded : goal.plan_now-requires-clause-coded
 plan_now-requires-clause-coded g c = subst (λ (e : Entries). AreCoded (now_at e)) (sym c.entries-entries.ensures) (λ u e is. (c.in_ok-given.ensures.updated.rechecked.law u e is).code)
 
 pub plan_now-requires-clause-clean : goal.plan_now-requires-clause-clean
-plan_now-requires-clause-clean g c = λ is.
+plan_now-requires-clause-clean g c = λ known is.
     let old = settled_at c.args.cache.now.store in
     let new = c.check_library.new.cache.store in
     let found = c.renewed_units-edits.result in
     let names = c.renewed_units-edits.ensures in
-    let but = of-edited c.args.edited.now c.in_ok-given.given.is_renewal (λ (edits : List EditedUnit). IsCleanBut c.args.sources.now old (units_of edits)) found names c.requires.clean in
+    let but = of-edited c.args.edited.now c.in_ok-given.given.is_renewal (λ (edits : List EditedUnit). IsCleanBut c.args.sources.now old (units_of edits)) found names (c.requires.clean known) in
     let renewed = renewed-by c.args.edited.now c.in_ok-given.given.is_renewal old (now_at new) found names c.in_ok-given.ensures.renewed in
     subst (λ (e : Entries). findings_of c.args.sources.now (results_of (now_at e)) ≡ []) (sym c.entries-entries.ensures)
     (clean-now c.args.sources.now old (now_at new) found but renewed (subst (λ (e : Entries). MatchOption found ⊥ (λ edits. AreSound (now_at e) edits.now)) c.entries-entries.ensures is))
@@ -46,13 +46,14 @@ plan_now-requires-clause-others g c =
     (others-left old new c.in_ok-given.ensures.left found renewed)
 
 pub plan_now-requires-clause-partition : goal.plan_now-requires-clause-partition
-plan_now-requires-clause-partition g c =
+plan_now-requires-clause-partition g c = λ known.
     let old = c.args.cache.now.store in
     let new = c.check_library.new.cache.store in
     let found = c.renewed_units-edits.result in
-    subst (λ (e : Entries). IfSome c.args.known (λ _. IfSome found (λ _. KeepsPartition c.args.sources.now (results_of (settled_at e)) c.args.main.now c.args.before.now))) (sym c.entries-entries.ensures)
-    (subst (λ (at : UnitKey → Option Stored). IfSome c.args.known (λ _. IfSome found (λ _. KeepsPartition c.args.sources.now (results_of at) c.args.main.now c.args.before.now))) (λ i u. sym (settled-left old new c.in_ok-given.ensures.left u) i)
-    (known-of c.args.edited.now c.in_ok-given.given.is_renewal (KeepsPartition c.args.sources.now (results_of (settled_at old)) c.args.main.now c.args.before.now) c.args.known found c.renewed_units-edits.ensures c.requires.partition))
+    let K = λ (at : UnitKey → Option Stored). KeepsPartition c.args.sources.now (results_of at) c.args.main.now c.args.before.now in
+    subst (λ (e : Entries). IfSome found (λ _. K (settled_at e))) (sym c.entries-entries.ensures)
+    (subst (λ (at : UnitKey → Option Stored). IfSome found (λ _. K at)) (λ i u. sym (settled-left old new c.in_ok-given.ensures.left u) i)
+    (of-edited c.args.edited.now c.in_ok-given.given.is_renewal (λ _. K (settled_at old)) found c.renewed_units-edits.ensures (c.requires.partition known)))
 
 pub returns-clause-prepared : goal.returns-clause-prepared
 returns-clause-prepared g c =
