@@ -87,7 +87,8 @@ def fail_in_turn(count, failing, what, wanted_of, **how):
     got, (failed, read) = failing.run(what, at, **how)
     while failed:
         output, until = wanted_of(at - 1)
-        count.check(f"{what} {at} of {how}", (*got, failed, read), (1, output, b"", 1, until))
+        told = b"error: the input can't be read\n" if what == "read" else b"error: the output can't be written\n"
+        count.check(f"{what} {at} of {how}", (*got, failed, read), (1, output, told, 1, until))
         at += 1
         got, (failed, read) = failing.run(what, at, **how)
     return at - 1

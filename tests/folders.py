@@ -15,7 +15,7 @@ tests/folders/NAME.txt, and docs/recording.txt, are recordings of a terminal, ea
     ? N               the exit status of the command, where it isn't 0
 
 and every other line is what the program writes next, on the standard output or the standard error; milliseconds count as 0. A command ends before
-the next `$` and at the end, where its standard input ends.
+the next `$` and at the end, where its standard input ends. The examples of README.md and docs/adabuild.md are played too.
 
 Then each program of tests/programs is built and run with its output on the standard output, and its end on the standard error; a folder of 401 units is
 built, edited and built; a program without end is interrupted; devices fail; damaged images are refused; each growth of memory is refused in turn.
@@ -26,12 +26,15 @@ import os
 import pathlib
 import re
 import select
+import shutil
 import signal
+import socket
 import subprocess
 import sys
 import tempfile
 import time
 
+from images import without_tasks
 from memory import Refuser
 
 TESTS = pathlib.Path(__file__).resolve().parent
@@ -132,9 +135,9 @@ def turn_round(path, words):
 class Recording:
     """A recording that is played in a folder."""
 
-    def __init__(self, program, path, room):
+    def __init__(self, program, lines, room):
         self.program = program
-        self.lines = path.read_text().split("\n")[:-1]
+        self.lines = lines
         self.room = room
         self.talk = None
         self.status = 0
@@ -196,7 +199,35 @@ class Recording:
 def run_recordings(program, count):
     for path in [*sorted((TESTS / "folders").glob("*.txt")), TOP / "docs/recording.txt"]:
         with tempfile.TemporaryDirectory() as room:
-            count.check(path.name, Recording(program, path, pathlib.Path(room)).played(), [])
+            count.check(path.name, Recording(program, path.read_text().split("\n")[:-1], pathlib.Path(room)).played(), [])
+
+
+def recording_of(page):
+    """The examples of a page as a recording: blocks with commands, and Ada sources, which are put into files of their units' names. Lines that report an error
+    belong to a command with exit status 1."""
+    lines = []
+    for language, block in re.findall(r"^```(\w*)\n(.*?)^```", page.read_text(), re.MULTILINE | re.DOTALL):
+        if language == "ada":
+            is_body, unit = re.search(r"^(?:package (body )?|procedure )([A-Za-z_]+)", block, re.MULTILINE).groups()
+            is_package = f"package {unit}" in block
+            lines += [f"+ {unit.lower()}.{'ads' if is_package and not is_body else 'adb'}", *(f"|{it}" for it in block.splitlines())]
+        elif re.search(r"^[$>] ", block, re.MULTILINE):
+            lines += [settled(it.encode()).decode() for it in block.splitlines()]
+            lines += ["? 1"] * (": error: " in block)
+    return lines
+
+
+def run_pages(program, count):
+    """The examples of the pages for users, word for word, in a copy of the folder that they speak of."""
+    for page in (TOP / "README.md", TOP / "docs/adabuild.md"):
+        with tempfile.TemporaryDirectory() as room:
+            room = pathlib.Path(room)
+            for file in (TOP / "crates/adabuild/data").iterdir():
+                put(room / file.name, file.read_bytes())
+                put(room / "crates/adabuild/data" / file.name, file.read_bytes())
+            lines = recording_of(page)
+            count.check(f"{page.name} has examples", len([it for it in lines if it.startswith("$ ")]) > 1, True)
+            count.check(f"the examples of {page.name}", Recording(program, lines, room).played(), [])
 
 
 def run(program, words, **more):
@@ -214,7 +245,7 @@ def wanted_end(folder):
     words = ends.read_text().split() if ends.exists() else ["finished"]
     if words[0] == "raised":
         file = words[2].replace(".", "-") + (".ads" if words[3] == "decl" else ".adb")
-        return 3, f"raised {words[1]}, {file}:{words[4]}\n".encode()
+        return 3, f"raised {words[1]}, {folder}/{file}:{words[4]}\n".encode()
     return 0, {"finished": b"", "idle": b"idle: each task waits, and nothing can wake one\n"}[words[0]]
 
 
@@ -222,7 +253,8 @@ def run_programs(program, count):
     for folder in sorted(it for it in (TESTS / "programs").iterdir() if it.is_dir()):
         status, told = wanted_end(folder)
         wanted = (status, (folder / "stdout").read_bytes(), told)
-        count.check(f"the program {folder.name}", run(program, ["--run", "--steps", "1000000000", folder.name, str(folder)]), wanted)
+        status, output, told = run(program, ["--run", "--steps", "1000000000", folder.name, str(folder)])
+        count.check(f"the program {folder.name}", (status, output, without_tasks(told)), wanted)
 
 
 def many_units(room, packages):
@@ -291,7 +323,7 @@ def run_damaged(program, count):
         count.check("an image is written", made, (0, b"", b""))
         whole = image.read_bytes()
         count.check("an image runs", run(program, ["--load", str(image)]), (0, b"total 55\n", b""))
-        refusal = (1, b"", f"error: {image} is no image, or a damaged one\n".encode())
+        refusal = (1, b"", f"error: {image} isn't an image, or is a damaged one\n".encode())
         for size in range(0, len(whole), 37):
             image.write_bytes(whole[:size])
             count.check(f"an image cut to {size} bytes", run(program, ["--load", str(image)]), refusal)
@@ -310,9 +342,164 @@ def run_devices(program, count):
     counter = str(TOP / "crates/adabuild/data")
     with open("/dev/full", "wb") as full:
         got = run(program, ["--run", "main", counter], stdout=full, stderr=subprocess.PIPE)
-        count.check("output to a full device", got, (1, b"", b"error: a device failed\n"))
+        count.check("output to a full device", got, (1, b"", b"error: the standard output can't be written\n"))
     got = run(program, ["--image", "/dev/full", "main", counter])
-    count.check("an image to a full device", got, (1, b"", b"error: /dev/full can't be written: No space left on device (os error 28)\n"))
+    count.check("an image to a device", got, (1, b"", b"error: /dev/full isn't a file; --force writes an image there\n"))
+    got = run(program, ["--image", "/dev/full", "--force", "--run", "main", counter])
+    count.check("an image to a full device, and the run", got, (1, b"total 55\n", b"error: /dev/full can't be written: No space left on device (os error 28)\n"))
+
+
+HELLO = b'with Ada.Text_IO;\nprocedure Hello is\nbegin\n   Ada.Text_IO.Put_Line ("hi");\nend Hello;\n'
+# needs the package P
+NEEDS = b"with P;\nprocedure Main is\nbegin\n   null;\nend Main;\n"
+MISSING = b"main.adb:1:6: error: E202 missing unit\nwith P;\n     ^\nnote: there is no p.ads in the folders\n1 error\n"
+
+
+def run_odd(program, count):
+    """Folders in which things stand that are no files, names that no source can have, and controls."""
+    with tempfile.TemporaryDirectory() as folder:
+        room = pathlib.Path(folder)
+        put(room / "hello.adb", HELLO)
+        put(room / "main.adb", NEEDS)
+        os.mkfifo(room / "queue")
+        held = socket.socket(socket.AF_UNIX)
+        held.bind(str(room / "held"))
+        for target in ("queue", "held", "/dev/zero", "/dev/stdin", "."):
+            (room / "p.ads").symlink_to(target)
+            count.check(f"not needed, a link to {target}", run(program, ["--run", "hello"], cwd=folder), (0, b"hi\n", b""))
+            told = b"warning: p.ads is left out: it isn't a file\n"
+            count.check(f"a link to {target}", run(program, ["main"], cwd=folder), (1, b"", told + MISSING))
+            (room / "p.ads").unlink()
+        os.mkfifo(room / "p.ads")
+        count.check("a pipe", run(program, ["main"], cwd=folder), (1, b"", told + MISSING))
+        (room / "p.ads").unlink()
+        (room / "p.ads").mkdir()
+        count.check("a folder", run(program, ["main"], cwd=folder), (1, b"", told + MISSING))
+        (room / "p.ads").rmdir()
+        (room / "p.ads").symlink_to("p.ads")
+        count.check("a link to itself", run(program, ["main"], cwd=folder), (1, b"", b"error: p.ads can't be read: Too many levels of symbolic links (os error 40)\n"))
+        talk = Talk([program, "--watch", "hello"], folder)
+        count.check("a watch among these", talk.next_line(), b"checked 1 of 1 units, image made, 0 ms\n")
+        (room / "Odd.ads").write_bytes(b"")
+        for wanted in (b"warning: Odd.ads is left out: a source's name is one or more of a-z 0-9 _ ~ - and then .ads or .adb\n", b""):
+            talk.say("")
+            lines = [talk.next_line() for _ in range(2 if wanted else 1)]
+            count.check("a name that appears in a watch", lines, [it for it in (wanted, b"checked 0 of 1 units, image as before, 0 ms\n") if it])
+        count.check("a watch's end", talk.finish(), (b"", 0))
+
+
+def run_names(program, count):
+    """Names that no source can have are told, with their controls shown, and not by the thousand; what editors leave is quiet."""
+    why = b" is left out: a source's name is one or more of a-z 0-9 _ ~ - and then .ads or .adb\n"
+    with tempfile.TemporaryDirectory() as folder:
+        room = pathlib.Path(folder)
+        put(room / "hello.adb", HELLO)
+        for quiet in (".#hello.adb", "hello.adb~", "#hello.adb#", ".hidden.ads", "notes.txt"):
+            (room / quiet).symlink_to("nowhere")
+        count.check("what editors leave", run(program, ["--run", "hello"], cwd=folder), (0, b"hi\n", b""))
+        put(room / "a\nb.ads", b"")
+        put(room / "\x1b[31mq.ads", b"")
+        told = b"warning: ^[[31mq.ads" + why + b"warning: a^Jb.ads" + why
+        count.check("controls in names", run(program, ["--run", "hello"], cwd=folder), (0, b"hi\n", told))
+        (room / "a\nb.ads").unlink()
+        (room / "\x1b[31mq.ads").unlink()
+        pathlib.Path(os.fsdecode(os.fsencode(room) + b"/caf\xe9.ads")).write_bytes(b"")
+        told = b"warning: . has names that aren't UTF-8, which are left out: 1\n"
+        count.check("a name that isn't UTF-8", run(program, ["--run", "hello"], cwd=folder), (0, b"hi\n", told))
+    with tempfile.TemporaryDirectory() as folder:
+        room = pathlib.Path(folder)
+        put(room / "hello.adb", HELLO)
+        for n in range(1000):
+            put(room / f"P{n:04}.ads", b"")
+        told = b"".join(b"warning: P%04d.ads" % n + why for n in range(10)) + b"warning: 990 more names are left out\n"
+        count.check("a thousand names", run(program, ["--run", "hello"], cwd=folder), (0, b"hi\n", told))
+
+
+# texts whose lines end in several ways, with the diagnostic of an unknown name in each
+LINES = (
+    (b"procedure M is\n   X : Integer;\n\f\nbegin\n   Foo;\n   null;\nend M;\n", b"m.adb:6:4: error: E401 not visible\n   Foo;\n   ^\nnote: Foo is declared in none of the units that can be seen here\n1 error\n"),
+    (b"procedure M is\r\nbegin\r\n   Foo;\r\nend M;\r\n", b"m.adb:3:4: error: E401 not visible\n   Foo;\n   ^\nnote: Foo is declared in none of the units that can be seen here\n1 error\n"),
+    (b"procedure M is\rbegin\r   Foo;\rend M;\r", b"m.adb:3:4: error: E401 not visible\n   Foo;\n   ^\nnote: Foo is declared in none of the units that can be seen here\n1 error\n"),
+    (b"procedure M is\n\vbegin\n   Foo;\nend M;\n", b"m.adb:4:4: error: E401 not visible\n   Foo;\n   ^\nnote: Foo is declared in none of the units that can be seen here\n1 error\n"),
+    (b"\xef\xbb\xbfprocedure M is begin Foo; end M;", b"m.adb:1:22: error: E401 not visible\nprocedure M is begin Foo; end M;\n                     ^\nnote: Foo is declared in none of the units that can be seen here\n1 error\n"),
+    ("procedure M is begin -- é".encode() + b"\n   Foo; end M;", b"m.adb:2:4: error: E401 not visible\n   Foo; end M;\n   ^\nnote: Foo is declared in none of the units that can be seen here\n1 error\n"),
+    (b"procedure M is begin \x1b[31m null; end M;\n", b"m.adb:1:22: error: E001 illegal character\nprocedure M is begin ^[[31m null; end M;\n                     ^\nnote: no lexeme of Ada begins with this character (ARM 2.1)\n1 error\n"),
+    (b"procedure M is begin null; \x00 end M;\n", b"m.adb:1:28: error: E001 illegal character\nprocedure M is begin null; ^@ end M;\n                           ^\nnote: no lexeme of Ada begins with this character (ARM 2.1)\n1 error\n"),
+)
+
+
+def run_lines(program, count):
+    """A caret stands under its place, however the lines of the text end, and controls are shown."""
+    for text, told in LINES:
+        with tempfile.TemporaryDirectory() as folder:
+            put(pathlib.Path(folder) / "m.adb", text)
+            count.check(f"lines of {text!r}", run(program, ["m"], cwd=folder), (1, b"", told))
+
+
+def run_images(program, count):
+    """Nothing but an image is written over, unless that is asked for."""
+    with tempfile.TemporaryDirectory() as folder:
+        room = pathlib.Path(folder)
+        put(room / "hello.adb", HELLO)
+        put(room / "notes", b"kept")
+        put(room / "empty", b"")
+        count.check("a source", run(program, ["--image", "hello.adb", "hello"], cwd=folder), (1, b"", b"error: hello.adb has the name of a source; --force writes an image there\n"))
+        count.check("a source that isn't there", run(program, ["--image", "new.adb", "hello"], cwd=folder)[0], 1)
+        count.check("another file, and the run", run(program, ["--run", "--image", "notes", "hello"], cwd=folder), (1, b"hi\n", b"error: notes isn't an image; --force writes over it\n"))
+        count.check("a folder", run(program, ["--image", ".", "hello"], cwd=folder), (1, b"", b"error: . isn't a file; --force writes an image there\n"))
+        count.check("they are as they were", ((room / "hello.adb").read_bytes(), (room / "notes").read_bytes(), (room / "new.adb").exists()), (HELLO, b"kept", False))
+        for words in (["--image", "empty"], ["--image", "empty"], ["--image", "notes", "--force"]):
+            count.check(f"{words}", run(program, [*words, "hello"], cwd=folder), (0, b"", b""))
+            count.check(f"{words}, run", run(program, ["--load", words[1]], cwd=folder), (0, b"hi\n", b""))
+
+
+def run_closure(program, count):
+    """Of 4,000 files those are opened that ten units have; a line of a watch with nothing changed is answered in 20 ms."""
+    with tempfile.TemporaryDirectory() as folder:
+        room = pathlib.Path(folder)
+        many_units(room, 2000)
+        put(room / "small.adb", b"with Unit_31;\nprocedure Small is\nbegin\n   null;\nend Small;\n")
+        wanted = ["small.adb", *(f"unit_{n}.ad{kind}" for n in (31, 15, 7, 3, 1, 0) for kind in "sb")]
+        for file in room.iterdir():
+            if file.name not in wanted:
+                file.chmod(0)
+                file.write_bytes(b"garbage") if os.geteuid() else None
+        traced = subprocess.run(["strace", "-f", "-e", "trace=open,openat", program, "small"], cwd=folder, capture_output=True) if shutil.which("strace") else None
+        if traced is not None:
+            opened = sorted(set(re.findall(rb'open(?:at)?\([^"]*"(?:[^"]*/)?([a-z0-9_]+\.ad[sb])"', traced.stderr)))
+            count.check("what is opened of 4,000 files", opened, sorted(it.encode() for it in wanted))
+        count.check("ten units of 4,000 files", run(program, ["small"], cwd=folder), (0, b"", b""))
+    with tempfile.TemporaryDirectory() as folder:
+        many_units(pathlib.Path(folder), 2000)
+        for file in pathlib.Path(folder).iterdir():
+            os.utime(file, (1, 1))
+        talk = Talk([program, "--watch", "main"], folder)
+        count.check("4,001 units", talk.next_line(), b"checked 4001 of 4001 units, image made, 0 ms\n")
+        first = processor_seconds(talk)
+        spent = []
+        for _ in range(10):
+            before = processor_seconds(talk)
+            talk.say("")
+            count.check("4,001 units, nothing changed", talk.next_line(), b"checked 0 of 4001 units, image as before, 0 ms\n")
+            spent.append(processor_seconds(talk) - before)
+        count.check(f"a line takes less than a 25th of the first build's {first}: {spent}", 25 * min(spent) < first, True)
+        count.check("4,001 units, the end", talk.finish(), (b"", 0))
+
+
+def processor_seconds(talk):
+    """The processor time that a program has used."""
+    return int(pathlib.Path(f"/proc/{talk.process.pid}/schedstat").read_text().split()[0]) / 1e9
+
+
+def run_ended_lines(program, count):
+    """A message stands on a line of its own."""
+    with tempfile.TemporaryDirectory() as folder:
+        put(pathlib.Path(folder) / "m.adb", b'with Ada.Text_IO;\nprocedure M is\n   Zero : Integer := 0;\nbegin\n   Ada.Text_IO.Put ("unended");\n   Zero := 1 / Zero;\nend M;\n')
+        got = subprocess.run([program, "--run", "m"], cwd=folder, stdin=subprocess.DEVNULL, stdout=subprocess.PIPE, stderr=subprocess.STDOUT)
+        count.check("a message behind an unended line", (got.returncode, got.stdout), (3, b"unended\nraised constraint_error, m.adb:6\n"))
+        count.check("the output alone", run(program, ["--run", "m"], cwd=folder), (3, b"unended", b"\nraised constraint_error, m.adb:6\n"))
+        sub = subprocess.run([program, "--run", "m", folder], cwd="/", stdin=subprocess.DEVNULL, capture_output=True)
+        count.check("the folder of an exception", sub.stderr, b"\nraised constraint_error, " + folder.encode() + b"/m.adb:6\n")
 
 
 def are_among(lines, others):
@@ -343,7 +530,7 @@ def run_refused(program, count):
         image = f"{folder}/image"
         count.check("the image", run(program, ["--image", image, "main", counter]), (0, b"", b""))
         runs = (
-            (b"", ["--run", "--order", "--image", "/dev/null", "main", counter]),
+            (b"", ["--run", "--order", "--image", "/dev/null", "--force", "main", counter]),
             (b"", ["--load", image]),
             (b"order\nrun\nobsolete\nquit\n", ["--watch", "main", counter]),
         )
@@ -376,11 +563,18 @@ def main():
     program = str(pathlib.Path(sys.argv[1]).resolve())
     count = Count()
     run_recordings(program, count)
+    run_pages(program, count)
     run_programs(program, count)
     run_many(program, count)
     run_endless(program, count)
     run_damaged(program, count)
     run_devices(program, count)
+    run_odd(program, count)
+    run_names(program, count)
+    run_lines(program, count)
+    run_images(program, count)
+    run_closure(program, count)
+    run_ended_lines(program, count)
     run_refused(program, count)
     print(f"{count.passed} passed, {count.failed} failed")
     return count.failed != 0

@@ -1,4 +1,5 @@
 """Images and their instructions, read by the tables of docs/formats.md: a reader of its own, which shares nothing with the program."""
+import re
 import struct
 
 INSTRUCTIONS = {
@@ -92,3 +93,8 @@ def instruction(code):
     if name.startswith("Jump"):
         return [name], code.place + given[0]
     return [name, *map(str, given)], None
+
+
+def without_tasks(told):
+    """What is told of a run without the lines of its tasks, which tests/folders/tasks.txt has."""
+    return re.sub(rb"^(in task |  environment task |  task )[^\n]*\n", b"", told, flags=re.M)

@@ -24,7 +24,7 @@ import subprocess
 import sys
 import tempfile
 
-from images import INSTRUCTIONS, Damaged, Image
+from images import INSTRUCTIONS, Damaged, Image, without_tasks
 
 MACHINE = pathlib.Path(__file__).resolve().parent / "machine"
 FORMS = {entry.partition(" ")[0]: (byte, entry.partition(" ")[2]) for byte, entry in INSTRUCTIONS.items()}
@@ -83,14 +83,19 @@ def image_of(fields, code):
     return head + b"".join(b"\1\2u%d" % i + words_of([place]) for i, place in enumerate(units)) + words_of([len(code)]) + code
 
 
+def ended(status, output, told):
+    """The exit status, the output and the error output of a run: what is printed of its end begins with the end of the output's last line, if that has none."""
+    return status, output, (b"\n" if told and output and not output.endswith(b"\n") else b"") + told
+
+
 def wanted_run(reply):
     """The exit status, the output and the error output that a reply stands for."""
     output, _, end = reply.rpartition("/")
     output = output.replace("%", "\n").encode()
     if end in ENDS:
-        return ENDS[end][0], output, ENDS[end][1].encode()
+        return ended(ENDS[end][0], output, ENDS[end][1].encode())
     exception, unit = end.split()
-    return 3, output, f"raised {exception}, u{unit}.adb\n".encode()
+    return ended(3, output, f"raised {exception}, u{unit}.adb\n".encode())
 
 
 def codes():
@@ -122,7 +127,7 @@ def images():
     rows = (MACHINE / "images.txt").read_text()
     for name, steps, digits, output, end in re.findall(r"^(\w+) (\d+) ([0-9a-f]+)\noutput \d+\n(.*?)\nend ([^\n]*)$", rows, re.M | re.S):
         status, told = end_of(end.split())
-        yield name, bytes.fromhex(digits), ["--steps", steps, "--tick", "100"], [(status, output.encode(), told.encode())]
+        yield name, bytes.fromhex(digits), ["--steps", steps, "--tick", "100"], [ended(status, output.encode(), told.encode())]
 
 
 def fronts(data):
@@ -166,7 +171,7 @@ class Machine:
     def run(self, data, words):
         self.image.write_bytes(data)
         done = subprocess.run([self.program, "--load", str(self.image), *words], stdin=subprocess.DEVNULL, capture_output=True, timeout=120)
-        return done.returncode, done.stdout, done.stderr
+        return done.returncode, done.stdout, without_tasks(done.stderr)
 
     def check(self, what, got, wanted):
         """`wanted` are all that may come."""
@@ -177,7 +182,7 @@ class Machine:
 
     def damage(self, what, data):
         """What images.py doesn't read is refused; all else runs to some end, and to the same one again."""
-        refused = (1, b"", f"error: {self.image} is no image, or a damaged one\n".encode())
+        refused = (1, b"", f"error: {self.image} isn't an image, or is a damaged one\n".encode())
         words = ["--steps", "1000"]
         got = self.run(data, words)
         if not is_image(data):

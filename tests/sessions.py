@@ -102,19 +102,21 @@ def run_command_lines(program, count):
         for line in json.loads((TESTS / "command-lines.json").read_text()):
             words = [places.get(word, word) for word in line["words"]]
             output = {"hello": replies, "nothing": b""}[line["output"]]
-            error = (line["error"] + "\n").encode() if "error" in line else b""
+            error = line["error"] + "\n" if "error" in line else ""
+            for place, named in places.items():
+                error = error.replace(place, named)
             given = b"" if any(word in places for word in line["words"]) else hello
             got = run(program, words, given)
-            count.check(f"adalib {' '.join(line['words'])!a}", got, (line["exit"], output, error))
+            count.check(f"adalib {' '.join(line['words'])!a}", got, (line["exit"], output, error.encode()))
 
 
 def run_faults(program, count):
-    """Devices that fail: then the exit status is 1, and nothing more is written."""
+    """Devices that fail: then the exit status is 1, nothing more is written, and the cause is told."""
     hello = input_of("hello")
     with open("/dev/full", "wb") as full:
-        count.check("output to a full device", run(program, [], hello, full), (1, b"", b""))
+        count.check("output to a full device", run(program, [], hello, full), (1, b"", b"error: the output can't be written\n"))
     with tempfile.NamedTemporaryFile("wb") as sink, open(sink.name, "wb") as write_only:
-        count.check("input that can't be read", run(program, [], write_only), (1, b"", b""))
+        count.check("input that can't be read", run(program, [], write_only), (1, b"", b"error: the input can't be read\n"))
 
 
 def next_line(stream):

@@ -65,7 +65,7 @@ def stored_tests(program, path, after, every=1):
             "Ada programs": ["programs.py"],
             "failing devices": ["devices.py"],
         },
-        "adabuild": {"folders": ["folders.py"], "images": ["machine.py"]},
+        "adabuild": {"folders": ["folders.py"], "diagnostics": ["diagnostics.py"], "traces": ["traces.py"], "images": ["machine.py"]},
     }
     return [Command(f"{name} of {path.relative_to(ROOT)}", python(f"tests/{words[0]}", *words[1:], path), after, path) for name, words in named[program].items()]
 
@@ -80,7 +80,8 @@ def tests():
     ]
     stored = [test for it, build in zip(PROGRAMS, builds) for test in stored_tests(it, ROOT / "out" / it, (build.name,), SOME)]
     library = ROOT / "out" / PROGRAMS[0]
-    return [*builds, *texts, *stored, Command("bodies that are only slow", python("tests/costs.py", library), (builds[0].name,), library)]
+    installing = Command("programs where they stay", python("tests/installing.py"), tuple(it.name for it in builds), library)
+    return [*builds, *texts, *stored, installing, Command("bodies that are only slow", python("tests/costs.py", library), (builds[0].name,), library)]
 
 
 def proofs(room):

@@ -1,7 +1,7 @@
 -- The exit status of the program.
 use Rattle.std.specs.Prelude.{ℕ, Ok, Err}
 use Rattle.adalib.specs.declared.status.Outcome.{Outcome}
-use Rattle.adalib.specs.declared.status.Outcome.TheVariants.{Served, Usage, Failed}
+use Rattle.adalib.specs.declared.status.Outcome.TheVariants.{Served, Usage, Unopened, NoMemory}
 use Rattle.al_session_served.specs.declared.serving.Ended.TheVariants.{Quit, BadLength}
 
 -- 0 at the end of the session; 2 after a put whose bytes aren't there as announced, and for words of another form; 1 after a failed device, and if
@@ -11,4 +11,5 @@ status_of (Served (Ok Quit)) = 0
 status_of (Served (Ok BadLength)) = 2
 status_of (Served (Err fault)) = 1
 status_of Usage = 2
-status_of Failed = 1
+status_of Unopened = 1
+status_of NoMemory = 1

@@ -1,9 +1,10 @@
 //! The program `adalib [--tick N] [FILE]`: a session over a file's commands, or over those of the standard input, with
 //! the replies on the standard output.
 //!
-//! Exit status: 0 at the end of the session; 1 where a device fails, the file can't be opened or memory is refused
-//! outside the session, with nothing more written; 2 where the session ends by a text that isn't there as announced,
-//! and where the words are of another form or aren't UTF-8, which the usage line on the error output says.
+//! Exit status: 0 at the end of the session; 1 if a device fails, the file can't be opened or memory is refused outside
+//! the session, with nothing more on the standard output and the cause on the standard error; 2 if the session ends by a
+//! put whose bytes aren't there as announced, and if the words have another form or aren't UTF-8, with the usage line on
+//! the standard error.
 #![tactic(auto)]
 
 ghost use Rattle.std.specs.Prelude.{◌≤◌};
@@ -13,7 +14,7 @@ mod serving;
 mod status;
 
 use al_base::NoMemory;
-use al_session::Counted;
+use al_session::{Counted, Device};
 use options::{MAX_TICK, Options, UsageError};
 use serving::serve_ada;
 use status::{Outcome, exit_code};
@@ -24,33 +25,56 @@ use std::process::ExitCode;
 use std::rt::{Env, Files};
 
 fn main(rt: HostRuntime) -> ExitCode {
-    let outcome = outcome_of(&rt).unwrap_or(Outcome::Failed);
-    if matches!(outcome, Outcome::Usage) {
-        let _ = eprintln!(rt; "usage: adalib [--tick N] [FILE]");
-    }
+    let outcome = outcome_of(&rt);
+    tell(&rt, &outcome);
     exit_code(outcome)
 }
 
+// Prints on the standard error why there is no whole session. If that fails too, the exit status still says it.
+fn tell<R: Eprint>(rt: &R, outcome: &Outcome) {
+    let _ = match outcome {
+        Outcome::Served(Ok(_)) | Outcome::Unopened => Ok(()),
+        Outcome::Served(Err(Device::Read)) => eprintln!(rt; "error: the input can't be read"),
+        Outcome::Served(Err(Device::Write)) => eprintln!(rt; "error: the output can't be written"),
+        Outcome::Usage => eprintln!(rt; "usage: adalib [--tick N] [FILE]"),
+        Outcome::NoMemory => eprintln!(rt; "error: out of memory"),
+    };
+}
+
 // Serves the session that the words of the command line ask for.
-fn outcome_of<R: Env + Files + Input + Print + AllocGlobal>(rt: &R) -> io::Result<Outcome> {
+fn outcome_of<R: Env + Files + Input + Print + Eprint + AllocGlobal>(rt: &R) -> Outcome {
     let alloc = rt.alloc();
-    let Some(words) = words_of(rt)? else {
-        return Ok(Outcome::Usage);
+    let Ok(words) = words_of(rt) else {
+        return Outcome::NoMemory;
+    };
+    let Some(words) = words else {
+        return Outcome::Usage;
     };
     match Options::of(alloc, words.as_slice()) {
         Ok(options) => match options.file {
-            Some(path) => {
-                let file = std::fs::open(rt, path)?;
-                session(alloc, rt, file, options.tick)
-            }
+            Some(path) => session_of(alloc, rt, path, options.tick),
             None => session(alloc, rt, rt.reader(), options.tick),
         },
-        Err(UsageError::OutOfMemory) => Ok(Outcome::Failed),
-        Err(UsageError::Usage) => Ok(Outcome::Usage),
+        Err(UsageError::OutOfMemory) => Outcome::NoMemory,
+        Err(UsageError::Usage) => Outcome::Usage,
     }
 }
 
-// The words of the command line, the program's own in front; none where one of them isn't UTF-8.
+// The session of a file's commands. If the file can't be opened, the cause is printed here.
+fn session_of<R: Files + Print + Eprint>(alloc: Global, rt: &R, path: &str, tick: u32) -> Outcome
+    requires some { 1 ≤ tick }
+    requires few { tick ≤ MAX_TICK }
+{
+    match std::fs::open(rt, path) {
+        Ok(file) => session(alloc, rt, file, tick),
+        Err(e) => {
+            let _ = eprintln!(rt; "error: {path} can't be opened: {e}");
+            Outcome::Unopened
+        }
+    }
+}
+
+// The words of the command line, after the program's own; none if one of them isn't UTF-8.
 fn words_of<R: Env + AllocGlobal>(rt: &R) -> io::Result<Option<Vec<String>>> {
     match std::env::args(rt) {
         Ok(words) => Ok(Some(words.collect(rt.alloc())?)),
@@ -60,21 +84,19 @@ fn words_of<R: Env + AllocGlobal>(rt: &R) -> io::Result<Option<Vec<String>>> {
 }
 
 // One session, from an empty library. Each reply is passed on at its end; what a device that fails leaves of it is dropped.
-fn session<D: io::Read + Drop, R: Print>(
-    alloc: Global,
-    rt: &R,
-    input: D,
-    tick: u32,
-) -> io::Result<Outcome>
+fn session<D: io::Read + Drop, R: Print>(alloc: Global, rt: &R, input: D, tick: u32) -> Outcome
     requires some { 1 ≤ tick }
     requires few { tick ≤ MAX_TICK }
 {
     let mut reader = Counted::new(input);
-    let mut writer = Counted::new(BufWriter::new(alloc, io::writer(rt))?);
+    let Ok(buffered) = BufWriter::new(alloc, io::writer(rt)) else {
+        return Outcome::NoMemory;
+    };
+    let mut writer = Counted::new(buffered);
     let came = serve_ada(alloc, &mut reader, &mut writer, tick);
     let _ = writer.into_inner().into_parts();
     match came {
-        Ok(ended) => Ok(Outcome::Served(ended)),
-        Err(NoMemory) => Ok(Outcome::Failed),
+        Ok(ended) => Outcome::Served(ended),
+        Err(NoMemory) => Outcome::NoMemory,
     }
 }

@@ -13,8 +13,10 @@ pub enum Outcome {
     Served(Result<Ended, Device>),
     /// The words of the command line have another form.
     Usage,
-    /// The file can't be opened, or memory is refused outside the session.
-    Failed,
+    /// The file can't be opened.
+    Unopened,
+    /// Memory is refused outside the session.
+    NoMemory,
 }
 
 /// The program's exit status.
@@ -26,6 +28,6 @@ pub fn exit_code(outcome: Outcome) -> ExitCode
         Outcome::Served(Ok(Ended::BadLength)) => ExitCode::from(2),
         Outcome::Served(Err(_)) => ExitCode::from(1),
         Outcome::Usage => ExitCode::from(2),
-        Outcome::Failed => ExitCode::from(1),
+        Outcome::Unopened | Outcome::NoMemory => ExitCode::from(1),
     }
 }

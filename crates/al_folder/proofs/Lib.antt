@@ -1,3 +1,3 @@
-mod Blanks
 mod Files
 mod ToldLines
+mod ShownBytes

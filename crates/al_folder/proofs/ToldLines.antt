@@ -11,3 +11,10 @@ lines_more line f xs i x lt is =
     ∙ ap (flat_map line) (map-append f (take i xs) (x ∷ []))
     ∙ flat_map-append line (map f (take i xs)) (f x ∷ [])
     ∙ ap (λ ys. flat_map line (map f (take i xs)) ++ ys) (append-nil (line (f x)))
+
+-- .. of what is as it is told
+pub bytes_more : {Y : Type 0} (line : Y → List ℕ) (xs : List Y) (i : ℕ) (x : Y) → i < length xs → x ≡ get_or xs i x → flat_map line (take (i + 1) xs) ≡ flat_map line (take i xs) ++ line x
+bytes_more line xs i x lt is =
+    ap (λ ys. flat_map line ys) (take_more xs i x lt ∙ ap (λ y. take i xs ++ y ∷ []) (sym is))
+    ∙ flat_map-append line (take i xs) (x ∷ [])
+    ∙ ap (λ ys. flat_map line (take i xs) ++ ys) (append-nil (line x))

@@ -7,14 +7,19 @@ use Rattle.al_base.specs.Files.{Texts, text_of}
 use Rattle.al_base_words.specs.Messages.{message_of}
 use Rattle.al_folder.specs.Lines.{line_of}
 use Rattle.al_folder.specs.Excerpts.{excerpt}
+use Rattle.al_folder.specs.Messages.{shown_bytes}
 
--- bytes that aren't told of the present folder
-abbrev pub elsewhere : List ℕ → List ℕ → List ℕ
-elsewhere folder bytes = if bytes_eq folder (codes ".") then [] else bytes
+-- the folder of a file, if it isn't the present one
+abbrev pub named_folder : List ℕ → List ℕ
+named_folder folder = if bytes_eq folder (codes ".") then [] else folder
 
--- what stands before the name of a file of the folder
+-- what is between a folder and the name of a file
+abbrev pub separator : List ℕ → List ℕ
+separator folder = if bytes_eq folder (codes ".") then [] else if bytes_eq folder (codes "/") then [] else codes "/"
+
+-- what is before the name of a file of the folder; nothing in the present one
 abbrev pub folder_words : List ℕ → List ℕ
-folder_words folder = elsewhere folder folder ++ elsewhere folder (codes "/")
+folder_words folder = shown_bytes (named_folder folder) ++ separator folder
 
 -- FOLDER/FILE:LINE:COL: error: CODE TEXT
 abbrev pub diagnostic_line : List ℕ → Finding → List ℕ

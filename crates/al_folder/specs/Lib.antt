@@ -2,6 +2,7 @@ pub mod Diagnostics
 pub mod Excerpts
 pub mod Faults
 pub mod Lines
+pub mod Messages
 pub mod Names
 pub mod Numbers
 pub mod Parts

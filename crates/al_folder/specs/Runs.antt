@@ -2,6 +2,8 @@
 use Rattle.std.specs.Prelude.{ℕ, ◌++◌, nat_lt, List, [], length, codes, decimal, Option, Some, None, if◌then◌else◌}
 use Rattle.al_base.specs.Batch.{Key, key_of}
 use Rattle.al_base.specs.FileNames.{file_name_of}
+use Rattle.al_base.specs.Files.{Texts}
+use Rattle.al_folder.specs.Diagnostics.{folder_of, folder_words}
 use Rattle.al_machine.specs.declared.instruction.Exception.{Exception}
 use Rattle.al_machine.specs.declared.instruction.Exception.TheVariants.{Constraint, Program, Storage}
 use Rattle.al_folder.specs.declared.runs.RunEnd.{RunEnd}
@@ -21,10 +23,14 @@ abbrev pub line_words : Option ℕ → List ℕ
 line_words None = codes "\n"
 line_words (Some line) = codes ":" ++ decimal line ++ codes "\n"
 
--- nothing where all is done
-abbrev pub end_text : RunEnd → List ℕ
-end_text Finished = []
-end_text Idle = codes "idle: each task waits, and nothing can wake one\n"
-end_text Spent = codes "stopped: the steps are spent\n"
-end_text Stuck = codes "stopped: the image is damaged\n"
-end_text (Raised exception unit line) = codes "raised " ++ exception_word exception ++ codes ", " ++ file_words (key_of unit) ++ line_words line
+-- a file behind its folder
+abbrev pub named_words : Texts → List ℕ → List ℕ
+named_words folders file = folder_words (folder_of folders file) ++ file
+
+-- nothing where all is done; the files stand in these folders
+abbrev pub end_text : Texts → RunEnd → List ℕ
+end_text folders Finished = []
+end_text folders Idle = codes "idle: each task waits, and nothing can wake one\n"
+end_text folders Spent = codes "stopped: the steps are spent\n"
+end_text folders Stuck = codes "stopped: the image is damaged\n"
+end_text folders (Raised exception unit line) = codes "raised " ++ exception_word exception ++ codes ", " ++ named_words folders (file_words (key_of unit)) ++ line_words line

@@ -3,26 +3,40 @@ ghost use Rattle.std.specs.Prelude.{◌≡◌, ◌-◌, ◌^◌, ◌<◌, IsOk, 
 ghost use Rattle.std.specs.List.{flat_map};
 ghost use Rattle.al_base.specs.Batch.{finding_of};
 ghost use Rattle.al_session_stream.specs.Output.{Adds};
-ghost use Rattle.al_folder.specs.Diagnostics.{elsewhere, folder_words, diagnostic_line, source_lines, diagnostic_text, folder_of, text_shown, told_text, errors_word, count_line, diagnostics_text};
+ghost use Rattle.al_folder.specs.Diagnostics.{named_folder, separator, folder_words, diagnostic_line, source_lines, diagnostic_text, folder_of, text_shown, told_text, errors_word, count_line, diagnostics_text};
 
+use crate::messages::emit_shown_bytes;
 use crate::{emit_excerpt, line_at};
 use al_base::{Diagnostic, Files, Place};
 use al_base_words::message_of;
 use al_session_stream::{Device, Sink, emit, emit_number};
 
-/// Bytes that aren't told of the present folder.
-fn elsewhere<'a>(folder: &[u8], bytes: &'a [u8]) -> &'a [u8]
-    ensures { result.now ≡ elsewhere folder.now bytes.now }
+/// The folder of a file, if it isn't the present one.
+fn named_folder(folder: &[u8]) -> &[u8]
+    ensures { result.now ≡ named_folder folder.now }
 {
     if folder == b".".as_slice() {
         &[]
     } else {
-        bytes
+        folder
     }
 }
 
-/// Writes what stands before the name of a file of the folder.
-fn emit_folder<K: Sink>(
+/// What is between a folder and the name of a file.
+fn separator(folder: &[u8]) -> &'static [u8]
+    ensures { result.now ≡ separator folder.now }
+{
+    if folder == b".".as_slice() {
+        b""
+    } else if folder == b"/".as_slice() {
+        b""
+    } else {
+        b"/"
+    }
+}
+
+/// Writes what is before the name of a file of the folder; nothing in the present one.
+pub(crate) fn emit_folder<K: Sink>(
     so_far: Result<(), Device>,
     writer: &mut K,
     folder: &[u8],
@@ -31,8 +45,8 @@ fn emit_folder<K: Sink>(
     ensures faults { IsOk result → IsOk so_far × (K.faults writer.new ≡ K.faults writer.old) }
     ensures adds { Adds K.written K.faults K.waits writer.old writer.new so_far result (folder_words folder.now) }
 {
-    let so_far = emit(so_far, writer, elsewhere(folder, folder));
-    emit(so_far, writer, elsewhere(folder, b"/"))
+    let so_far = emit_shown_bytes(so_far, writer, named_folder(folder));
+    emit(so_far, writer, separator(folder))
 }
 
 /// Writes FOLDER/FILE:LINE:COL: error: CODE TEXT.
@@ -93,7 +107,7 @@ fn emit_diagnostic<K: Sink>(
 }
 
 /// The folder of a file; the present one where none is told.
-fn folder_of<'a>(folders: &'a Files, file: &[u8]) -> &'a [u8]
+pub(crate) fn folder_of<'a>(folders: &'a Files, file: &[u8]) -> &'a [u8]
     ensures { result.now ≡ folder_of folders.now file.now }
 {
     match folders.get(file) {
@@ -110,7 +124,7 @@ fn text_shown<'a>(is_plain: bool, texts: &'a Files, file: &[u8]) -> Option<&'a [
 }
 
 /// Writes a diagnostic of one of these files, which stand in these folders.
-fn emit_told<K: Sink>(
+pub fn emit_told<K: Sink>(
     so_far: Result<(), Device>,
     writer: &mut K,
     folders: &Files,
@@ -158,7 +172,7 @@ fn errors_word(count: usize) -> &'static [u8]
 }
 
 /// Writes how many errors there are.
-fn emit_count<K: Sink>(
+pub fn emit_count<K: Sink>(
     so_far: Result<(), Device>,
     writer: &mut K,
     count: usize,

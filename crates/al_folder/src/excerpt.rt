@@ -1,8 +1,10 @@
 // A line with a caret under a place of it.
-ghost use Rattle.std.specs.Prelude.{◌≡◌, ◌∷◌, [], ◌-◌, ◌^◌, ◌<◌, ◌≤◌, ◌+◌, IsOk, length, map, drop, take, nat_lt};
+ghost use Rattle.std.specs.Prelude.{◌≡◌, ◌∷◌, [], ◌-◌, ◌^◌, ◌<◌, ◌≤◌, ◌+◌, IsOk, length, drop, take, nat_lt};
+ghost use Rattle.std.specs.List.{flat_map};
 ghost use Rattle.al_session_stream.specs.Output.{Adds};
-ghost use Rattle.al_folder.specs.Excerpts.{left_out, where_left, shown, blank_for, caret, excerpt};
+ghost use Rattle.al_folder.specs.Excerpts.{left_out, where_left, shown, blanks_for, caret, excerpt};
 
+use crate::messages::emit_shown_bytes;
 use al_session_stream::{Device, Sink, emit};
 
 /// How many bytes of a line are shown at most.
@@ -63,15 +65,20 @@ fn emit_shown<K: Sink>(
 {
     let rest = after(front, line);
     let so_far = emit(so_far, writer, where_left(front > 0, b"..."));
-    let so_far = emit(so_far, writer, front_of(WIDTH, rest));
+    let so_far = emit_shown_bytes(so_far, writer, front_of(WIDTH, rest));
     emit(so_far, writer, where_left(rest.len() > WIDTH, b"..."))
 }
 
-/// A tab for a tab, so that what is below it stands below it, however wide tabs are, and else a blank.
-fn blank_for(byte: u8) -> &'static [u8]
-    ensures { result.now ≡ map blank_for (byte ∷ []) }
+/// What is as wide as what is shown of a byte: a tab for a tab, so that what is below it stands below it, however wide tabs are.
+fn blanks_for(byte: u8) -> &'static [u8]
+    ensures { result.now ≡ blanks_for byte }
 {
-    if byte == b'\t' { b"\t" } else { b" " }
+    match byte {
+        b'\t' => b"\t",
+        0..=31 | 127 => b"  ",
+        128..=191 => b"",
+        _ => b" ",
+    }
 }
 
 /// Writes blanks as wide as these bytes.
@@ -82,10 +89,10 @@ fn emit_blanks<K: Sink>(
 ) -> Result<(), Device>
     requires { IsOk so_far → K.faults writer.old < 2 ^ 64 - 1 }
     ensures faults { IsOk result → IsOk so_far × (K.faults writer.new ≡ K.faults writer.old) }
-    ensures adds { Adds K.written K.faults K.waits writer.old writer.new so_far result (map blank_for bytes.now) }
+    ensures adds { Adds K.written K.faults K.waits writer.old writer.new so_far result (flat_map blanks_for bytes.now) }
 {
     for byte in bytes {
-        so_far = emit(so_far, writer, blank_for(*byte));
+        so_far = emit(so_far, writer, blanks_for(*byte));
     }
     so_far
 }

@@ -3,9 +3,10 @@ ghost use Rattle.std.specs.Prelude.{◌≡◌, ◌-◌, ◌^◌, ◌<◌, IsOk};
 ghost use Rattle.al_base.specs.Batch.{key_of};
 ghost use Rattle.al_session_stream.specs.Output.{Adds};
 ghost use Rattle.al_folder.specs.declared.runs.RunEnd.TheVariants.{Raised};
-ghost use Rattle.al_folder.specs.Runs.{exception_word, file_words, line_words, end_text};
+ghost use Rattle.al_folder.specs.Runs.{exception_word, file_words, named_words, line_words, end_text};
 
-use al_base::{FileKey, UnitKey};
+use crate::diagnostics::{emit_folder, folder_of};
+use al_base::{FileKey, Files, UnitKey};
 use al_machine::Exception;
 use al_session_stream::{Device, Sink, emit, emit_number};
 
@@ -53,23 +54,39 @@ fn exception_word(exception: Exception) -> &'static [u8]
     }
 }
 
-/// Writes the name of the file that holds the unit.
+/// Writes the name of a file behind its folder.
+fn emit_named<K: Sink>(
+    so_far: Result<(), Device>,
+    writer: &mut K,
+    folders: &Files,
+    name: &[u8],
+) -> Result<(), Device>
+    requires { IsOk so_far → K.faults writer.old < 2 ^ 64 - 1 }
+    ensures faults { IsOk result → IsOk so_far × (K.faults writer.new ≡ K.faults writer.old) }
+    ensures adds { Adds K.written K.faults K.waits writer.old writer.new so_far result (named_words folders.now name.now) }
+{
+    let so_far = emit_folder(so_far, writer, folder_of(folders, name));
+    emit(so_far, writer, name)
+}
+
+/// Writes the name of the file that holds the unit, behind its folder.
 fn emit_file<K: Sink>(
     so_far: Result<(), Device>,
     writer: &mut K,
+    folders: &Files,
     key: &UnitKey,
 ) -> Result<(), Device>
     requires { IsOk so_far → K.faults writer.old < 2 ^ 64 - 1 }
     ensures faults { IsOk result → IsOk so_far × (K.faults writer.new ≡ K.faults writer.old) }
-    ensures adds { Adds K.written K.faults K.waits writer.old writer.new so_far result (file_words (key_of key.now)) }
+    ensures adds { Adds K.written K.faults K.waits writer.old writer.new so_far result (named_words folders.now (file_words (key_of key.now))) }
 {
     let name = key.name.as_slice();
     if name.len() > 251 {
-        return emit(so_far, writer, name);
+        return emit_named(so_far, writer, folders, name);
     }
     match FileKey::of(name, key.kind) {
-        Some(file) => emit(so_far, writer, file.as_slice()),
-        None => emit(so_far, writer, name),
+        Some(file) => emit_named(so_far, writer, folders, file.as_slice()),
+        None => emit_named(so_far, writer, folders, name),
     }
 }
 
@@ -95,30 +112,32 @@ fn emit_line<K: Sink>(
 fn emit_raised<K: Sink>(
     so_far: Result<(), Device>,
     writer: &mut K,
+    folders: &Files,
     exception: Exception,
     unit: &UnitKey,
     line: Option<u32>,
 ) -> Result<(), Device>
     requires { IsOk so_far → K.faults writer.old < 2 ^ 64 - 1 }
     ensures faults { IsOk result → IsOk so_far × (K.faults writer.new ≡ K.faults writer.old) }
-    ensures adds { Adds K.written K.faults K.waits writer.old writer.new so_far result (end_text (Raised exception unit.now line)) }
+    ensures adds { Adds K.written K.faults K.waits writer.old writer.new so_far result (end_text folders.now (Raised exception unit.now line)) }
 {
     let so_far = emit(so_far, writer, b"raised ");
     let so_far = emit(so_far, writer, exception_word(exception));
     let so_far = emit(so_far, writer, b", ");
-    let so_far = emit_file(so_far, writer, unit);
+    let so_far = emit_file(so_far, writer, folders, unit);
     emit_line(so_far, writer, line)
 }
 
-/// Writes how a run ended; nothing where all is done.
+/// Writes how a run ended; nothing where all is done. The files of units stand in these folders.
 pub fn emit_end<K: Sink>(
     so_far: Result<(), Device>,
     writer: &mut K,
+    folders: &Files,
     end: &RunEnd,
 ) -> Result<(), Device>
     requires { IsOk so_far → K.faults writer.old < 2 ^ 64 - 1 }
     ensures faults { IsOk result → IsOk so_far × (K.faults writer.new ≡ K.faults writer.old) }
-    ensures adds { Adds K.written K.faults K.waits writer.old writer.new so_far result (end_text end.now) }
+    ensures adds { Adds K.written K.faults K.waits writer.old writer.new so_far result (end_text folders.now end.now) }
 {
     match end {
         RunEnd::Finished => emit(so_far, writer, b""),
@@ -133,6 +152,6 @@ pub fn emit_end<K: Sink>(
             exception,
             unit,
             line,
-        } => emit_raised(so_far, writer, *exception, unit, *line),
+        } => emit_raised(so_far, writer, folders, *exception, unit, *line),
     }
 }

@@ -1,5 +1,5 @@
 use Rattle.std.proofs.Common.{append_assoc}
-use Rattle.al_folder.specs.Diagnostics.{elsewhere}
+use Rattle.al_folder.specs.Diagnostics.{folder_words}
 use Rattle.al_folder.proofs.diagnostics.emit_diagnostic_line.Goals as goal
 
 pub returns-clause-adds : goal.returns-clause-adds
@@ -13,4 +13,4 @@ returns-clause-adds g c = λ start before wrote.
     let seven = c.emit-so_far-4.ensures.adds start _ six in
     let eight = rw c.message_of.ensures at (c.emit-so_far-5.ensures.adds start _ seven) in
     let nine = c.emit.ensures.adds start _ eight in
-    simp (append_assoc, append_assoc (elsewhere c.args.folder.now c.args.folder.now)) (simp append_assoc at nine)
+    simp (append_assoc, append_assoc (folder_words c.args.folder.now)) (simp append_assoc at nine)

@@ -1,11 +1,12 @@
-use Rattle.std.proofs.Common.{◌≡◌, map, take, IsOk}
+use Rattle.std.proofs.Common.{◌≡◌, take, IsOk}
+use Rattle.std.specs.List.{flat_map}
 use Rattle.al_session_stream.specs.Output.{Adds}
-use Rattle.al_folder.specs.Excerpts.{blank_for}
+use Rattle.al_folder.specs.Excerpts.{blanks_for}
 use Rattle.al_folder.proofs.excerpt.emit_blanks.Given as goal
 
 abbrev pub invariant-loop-byte : goal.invariant-loop-byte
 invariant-loop-byte g l = record {
   adds : Adds g.K.Sink.written g.K.Sink.faults g.K.Sink.waits l.fn.writer l.writer l.fn.so_far l.so_far
-      (map blank_for (take l.byte-index l.bytes));
+      (flat_map blanks_for (take l.byte-index l.bytes));
   room : IsOk l.so_far → IsOk l.fn.so_far × (g.K.Sink.faults l.writer ≡ g.K.Sink.faults l.fn.writer);
 }

@@ -8,13 +8,13 @@ pub returns-then-name-gt251-clause-adds : goal.returns-then-name-gt251-clause-ad
 returns-then-name-gt251-clause-adds g c = λ start before wrote.
     let above = rw c.as_slice-name.ensures at c.if-name-gt251.true in
     let long : ltb 251 (length c.args.key.now.name) ≡ true = grind (arith, nat_tests) in
-    rw long (rw c.as_slice-name.ensures at (c.emit.ensures.adds start before wrote))
+    rw long (rw c.as_slice-name.ensures at (c.emit_named.ensures.adds start before wrote))
 
 pub returns-in-Some-clause-adds : goal.returns-in-Some-clause-adds
 returns-in-Some-clause-adds g c = λ start before wrote.
     let within = rw c.as_slice-name.ensures at c.if-name-gt251.false in
     let short : ltb 251 (length c.args.key.now.name) ≡ false = grind (arith, nat_tests) in
-    rw short (rw (c.as_slice.ensures, c.in-Some.ensures, c.as_slice-name.ensures) at (c.emit-in-Some.ensures.adds start before wrote))
+    rw short (rw (c.as_slice.ensures, c.in-Some.ensures, c.as_slice-name.ensures) at (c.emit_named-in-Some.ensures.adds start before wrote))
 
 pub returns-in-None-clause-adds : goal.returns-in-None-clause-adds
 returns-in-None-clause-adds g c = λ start before wrote.

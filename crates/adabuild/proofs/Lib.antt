@@ -1,3 +1,0 @@
-pub mod SameFiles
-pub mod Brought
-pub mod Libraries

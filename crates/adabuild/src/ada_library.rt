@@ -1,0 +1,101 @@
+// The library of Ada units, as folders are built with it.
+ghost use Rattle.std.specs.Prelude.{◌≡◌, IfOk};
+ghost use Rattle.al_session_served.specs.Library.{empty};
+ghost use Rattle.al_session.specs.Meanings.{library_meaning};
+
+use al_base::{Name, NoMemory, Refusal, UnitKey};
+use al_folder_served::FolderLibrary;
+use al_link_image::Image;
+use al_query_outcome::UnitCheck;
+use al_session::{Engine, new_engine};
+use al_session_served::{Built, RunReport, UnitLibrary};
+use al_unit::AdaText;
+use std::alloc::Global;
+
+/// A library of Ada units over a checker.
+pub struct AdaLibrary<C: UnitCheck> {
+    engine: Engine<C>,
+}
+
+/// A library with no file and no build.
+pub fn new_library<C: UnitCheck<Text = AdaText> + Drop>(
+    alloc: Global,
+    checker: C,
+) -> Result<AdaLibrary<C>, NoMemory>
+    ensures { IfOk result (λ library. library.engine ≡ empty) }
+{
+    let engine = new_engine(alloc, checker)?;
+    Ok(AdaLibrary { engine })
+}
+
+impl<C: UnitCheck + Drop> AdaLibrary<C> {
+    /// Leaves all that is kept as it is: the system takes the memory back at the end of the process, and letting go of it would only
+    /// take time.
+    pub fn leave(self) {
+        let AdaLibrary { engine } = self;
+        std::mem::forget(engine);
+    }
+}
+
+impl<C: UnitCheck> UnitLibrary for AdaLibrary<C> {
+    ghost use Rattle.al_session.specs.Settled.{is_settled};
+
+    ghost meaning = { library_meaning C.meaning C.Text.header };
+
+    ghost state = { λ l. l.engine };
+
+    fn check_put(&self, name: &[u8], len: usize) -> Result<(), Refusal> {
+        self.engine.check_put(name, len)
+    }
+
+    fn put(&mut self, name: &[u8], text: Vec<u8>) -> Result<(), Refusal> {
+        self.engine.put(name, text)
+    }
+
+    fn delete(&mut self, name: &[u8]) -> Result<(), Refusal> {
+        self.engine.delete(name)
+    }
+
+    fn rename(&mut self, old: &[u8], new: &[u8]) -> Result<(), Refusal> {
+        self.engine.rename(old, new)
+    }
+
+    fn build(&mut self, unit: &[u8]) -> Result<(), NoMemory> {
+        self.engine.build(unit)
+    }
+
+    fn last(&self) -> Option<Built<'_>> {
+        self.engine.last()
+    }
+
+    fn run(&self, tick: u32, steps: u64) -> Result<RunReport, Refusal> {
+        self.engine.run(tick, steps)
+    }
+
+    fn units(&self) -> Result<Vec<(Name, Option<UnitKey>)>, NoMemory> {
+        self.engine.units()
+    }
+
+    fn obsolete(&self) -> Result<Vec<UnitKey>, Refusal> {
+        self.engine.obsolete()
+    }
+
+    ghost settled = { is_settled C.meaning C.Text.header _ _ };
+}
+
+impl<C: UnitCheck> FolderLibrary for AdaLibrary<C> {
+    fn last_checked(&self) -> &[UnitKey] {
+        self.engine.engine().last_checked()
+    }
+
+    fn patched(&self) -> usize {
+        self.engine.engine().patched()
+    }
+
+    fn image(&self) -> Option<&Image> {
+        match self.engine.engine().image() {
+            Ok(program) => Some(program.image()),
+            Err(_) => None,
+        }
+    }
+}

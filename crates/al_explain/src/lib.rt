@@ -1,0 +1,12 @@
+//! The pages of the diagnostics' codes: the rule, the Manual's clause, a short source that breaks it, and the source as it is right.
+//!
+//! docs/diagnostics.md is made from this table, and each source is a test (`tests/diagnostics.py`).
+#![tactic(auto)]
+
+mod finding;
+mod table;
+mod writing;
+
+pub use finding::{code_named, pages};
+pub use table::{PAGES, Page};
+pub use writing::page_text;

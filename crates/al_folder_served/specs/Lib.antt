@@ -1,0 +1,3 @@
+pub mod Brought
+pub mod Sources
+pub mod Told

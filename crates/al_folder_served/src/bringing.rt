@@ -1,0 +1,95 @@
+// Handing a library what was read.
+ghost use Rattle.std.specs.Prelude.{◌≡◌, ◌↔◌, Some, IfErr, IsOk, IsTrue, OnOk};
+ghost use Rattle.al_base.specs.FileLaws.{Ascend};
+ghost use Rattle.al_base.specs.Files.{text_of};
+ghost use Rattle.al_session_served.specs.Library.{with_now};
+ghost use Rattle.al_folder_served.specs.Brought.{still_there};
+ghost use Rattle.al_folder_served.specs.declared.failure.Failure.TheVariants.{Memory};
+
+use crate::failure::Failure;
+use crate::library::FolderLibrary;
+use al_base::{Files, Refusal};
+use std::alloc::Global;
+
+/// Brings a library with these files to those: what is gone is deleted, and what is new or has another text is put. Its files are those
+/// then, each with its text, and no other; all else is as before.
+///
+/// # Errors
+///
+/// `Memory` if memory runs out.
+pub fn bring<L: FolderLibrary>(
+    alloc: Global,
+    library: &mut L,
+    before: &Files,
+    now: &Files,
+) -> Result<(), Failure>
+    requires { (L.state library.old).now ≡ before.now }
+    ensures ok { OnOk result (L.state library.new ≡ with_now (L.state library.old) now.now) }
+    ensures err { IfErr result (λ e. e ≡ Memory) }
+{
+    delete_gone(library, before, now)?;
+    put_changed(alloc, library, before, now)
+}
+
+// Deletes what is gone.
+fn delete_gone<L: FolderLibrary>(
+    library: &mut L,
+    before: &Files,
+    now: &Files,
+) -> Result<(), Failure>
+    requires { (L.state library.old).now ≡ before.now }
+    ensures ok { OnOk result (L.state library.new ≡ with_now (L.state library.old) (still_there now.now before.now)) }
+    ensures ascend { OnOk result (Ascend (L.state library.new).now) }
+    ensures err { IfErr result (λ e. e ≡ Memory) }
+{
+    let list = before.shared()?;
+    for (name, _text) in list.iter() {
+        if now.get(name).is_none() {
+            taken(library.delete(name))?;
+        }
+    }
+    Ok(())
+}
+
+// Puts what is new or has another text.
+fn put_changed<L: FolderLibrary>(
+    alloc: Global,
+    library: &mut L,
+    before: &Files,
+    now: &Files,
+) -> Result<(), Failure>
+    requires files { (L.state library.old).now ≡ still_there now.now before.now }
+    requires ascend { Ascend (L.state library.old).now }
+    ensures ok { OnOk result (L.state library.new ≡ with_now (L.state library.old) now.now) }
+    ensures err { IfErr result (λ e. e ≡ Memory) }
+{
+    let list = now.shared()?;
+    for (name, text) in list.iter() {
+        if !has_text(before, name, text.as_slice()) {
+            taken(library.put(name, Vec::from_slice(alloc, text.as_slice())?))?;
+        }
+    }
+    Ok(())
+}
+
+// Whether a file has this text.
+fn has_text(files: &Files, name: &[u8], text: &[u8]) -> bool
+    ensures { IsTrue result ↔ text_of files.now name.now ≡ Some text.now }
+{
+    match files.get(name) {
+        Some(found) => found == text,
+        None => false,
+    }
+}
+
+// A library takes what these files take, so that it can only run out of memory.
+fn taken(answer: Result<(), Refusal>) -> Result<(), Failure>
+    requires { IfErr answer (λ e. e ≡ Refusal.NoMemory) }
+    ensures ok { OnOk result (IsOk answer) }
+    ensures err { IfErr result (λ e. e ≡ Memory) }
+{
+    match answer {
+        Ok(()) => Ok(()),
+        Err(_) => Err(Failure::Memory),
+    }
+}

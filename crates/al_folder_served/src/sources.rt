@@ -1,0 +1,55 @@
+// The sources that were read.
+ghost use Rattle.std.specs.Prelude.{◌≡◌, [], IsTrue};
+
+use crate::disk::Stamp;
+use std::alloc::Global;
+use std::collections::BTreeMap;
+
+/// The stamp of a file before it was read, and whether the file was old then.
+#[derive(Clone, Copy)]
+pub struct Seen {
+    pub stamp: Stamp,
+    pub is_old: bool,
+}
+
+/// The sources of some folders, by name.
+pub struct Sources {
+    pub texts: al_base::Files,
+    /// In which folder each is.
+    pub folders: al_base::Files,
+    pub seen: BTreeMap<String, Seen>,
+    /// What was listed of the folders; none before they are.
+    pub listed: Option<Vec<u8>>,
+    /// Whether each name that is needed is that of a file.
+    pub are_files: bool,
+    /// Whether each could be read.
+    pub are_whole: bool,
+}
+
+impl Drop for Sources {
+    fn drop(self) {
+        let Sources {
+            texts: _,
+            folders: _,
+            seen: _,
+            listed: _,
+            are_files: _,
+            are_whole: _,
+        } = self;
+    }
+}
+
+impl Sources {
+    pub fn new(alloc: Global) -> Sources
+        ensures { (result.texts ≡ []) × (result.folders ≡ []) × IsTrue result.are_whole }
+    {
+        Sources {
+            texts: al_base::Files::new(alloc),
+            folders: al_base::Files::new(alloc),
+            seen: BTreeMap::new(alloc),
+            listed: None,
+            are_files: true,
+            are_whole: true,
+        }
+    }
+}

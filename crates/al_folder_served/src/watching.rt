@@ -1,0 +1,270 @@
+// A library that is built again and again, as lines of the standard input ask for it.
+ghost use Rattle.std.specs.Prelude.{◌≡◌, Ok, OnOk, false};
+ghost use Rattle.al_session_served.specs.Library.{empty};
+ghost use Rattle.al_folder_served.specs.Sources.{Holds, IsBuiltFrom};
+
+use crate::bringing::bring;
+use crate::building::{Uses, build, finish_build};
+use crate::disk::Disk;
+use crate::explaining::report_progress;
+use crate::failure::Failure;
+use crate::index::Told;
+use crate::library::FolderLibrary;
+use crate::reading::read_sources;
+use crate::request::{Pace, Request};
+use crate::running::Run;
+use crate::screen::Screen;
+use crate::sources::Sources;
+use crate::telling::{Progress, tell_parts};
+use crate::unchanged::are_unchanged;
+use al_base::{Name, Refusal};
+use al_folder::{Ending, ImageChange, WatchWord, image_change, watch_word};
+use al_session_served::Outcome;
+use al_session_stream::Sink;
+use std::alloc::Global;
+use std::io;
+
+// How many lines of the standard input are read at most.
+const MOST_LINES: u64 = 1_000_000;
+
+// After how many steps a run ends that a line asks for, without `--steps`: an interrupt would end the watch too.
+const WATCH_STEPS: u32 = 100_000_000;
+
+/// What a watch keeps: the sources that its library holds, and what was printed of names.
+#[derive(Drop)]
+struct Kept<'a> {
+    sources: Sources,
+    told: Told,
+    unit: &'a Name,
+}
+
+/// Where the lines come from that ask for something.
+pub trait LineSource {
+    /// The next line, without its end; none at the end of the input.
+    fn next_line(&mut self, alloc: Global) -> io::Result<Option<Vec<u8>>>;
+}
+
+/// Builds the folders, and at each line of the standard input does what it asks for.
+pub fn watch<L: FolderLibrary, D: Disk, O: Sink, E: Sink, N: Run, S: LineSource>(
+    alloc: Global,
+    disk: &mut D,
+    screen: &mut Screen<O, E>,
+    run: &mut N,
+    library: &mut L,
+    request: &Request<'_>,
+    unit: &Name,
+    input: &mut S,
+) -> Result<Ending, Failure>
+    requires { L.state library.old ≡ empty }
+{
+    let mut kept = Kept {
+        sources: Sources::new(alloc),
+        told: Told::new(alloc),
+        unit,
+    };
+    let uses = uses_of(request);
+    build_again(alloc, disk, screen, run, library, request, &mut kept, uses)?;
+    for _line in 0..MOST_LINES {
+        let Some(line) = line_of(alloc, input)? else {
+            break;
+        };
+        if !serve_line(
+            alloc,
+            disk,
+            screen,
+            run,
+            library,
+            request,
+            &mut kept,
+            line.as_slice(),
+        )? {
+            break;
+        }
+    }
+    Ok(Ending::Done)
+}
+
+fn line_of<S: LineSource>(alloc: Global, input: &mut S) -> Result<Option<Vec<u8>>, Failure> {
+    match input.next_line(alloc) {
+        Ok(line) => Ok(line),
+        Err(e) if e.kind() == io::ErrorKind::OutOfMemory => Err(Failure::Memory),
+        Err(_) => Err(Failure::Input),
+    }
+}
+
+// What a build of a watch does with the program; a run has an end.
+fn uses_of(request: &Request<'_>) -> Uses {
+    Uses {
+        order: request.order,
+        run: request.run,
+        pace: Pace {
+            tick: request.pace.tick,
+            steps: Some(request.pace.steps.unwrap_or(WATCH_STEPS)),
+        },
+    }
+}
+
+// A line of a terminal of another system ends with CR and LF.
+fn without_return(line: &[u8]) -> &[u8] {
+    match line {
+        [front @ .., b'\r'] => front,
+        _ => line,
+    }
+}
+
+// Does what the line asks for. Returns whether more may be asked for.
+fn serve_line<L: FolderLibrary, D: Disk, O: Sink, E: Sink, N: Run>(
+    alloc: Global,
+    disk: &mut D,
+    screen: &mut Screen<O, E>,
+    run: &mut N,
+    library: &mut L,
+    request: &Request<'_>,
+    kept: &mut Kept<'_>,
+    line: &[u8],
+) -> Result<bool, Failure>
+    requires { Holds (L.state library.old) kept.old.sources.texts }
+    ensures { OnOk result (Holds (L.state library.new) kept.new.sources.texts) }
+{
+    let mut uses = uses_of(request);
+    match watch_word(without_return(line)) {
+        WatchWord::Build => {}
+        WatchWord::Run => uses.run = true,
+        WatchWord::Order => uses.order = true,
+        WatchWord::Obsolete => {
+            list_obsolete(alloc, disk, screen, library, request, kept)?;
+            return Ok(true);
+        }
+        WatchWord::Quit => return Ok(false),
+        WatchWord::Unknown => {
+            screen.tell_line(&[
+                b"the words are run, order, obsolete and quit, and an empty line builds",
+            ])?;
+            return Ok(true);
+        }
+    }
+    build_again(alloc, disk, screen, run, library, request, kept, uses)?;
+    Ok(true)
+}
+
+// Reads the folders again, and hands the library what has changed. Returns whether all could be read; if not, all is as before.
+fn read_again<L: FolderLibrary, D: Disk, O: Sink, E: Sink>(
+    alloc: Global,
+    disk: &D,
+    screen: &mut Screen<O, E>,
+    library: &mut L,
+    request: &Request<'_>,
+    kept: &mut Kept<'_>,
+) -> Result<bool, Failure>
+    requires { Holds (L.state library.old) kept.old.sources.texts }
+    ensures holds { OnOk result (Holds (L.state library.new) kept.new.sources.texts) }
+    ensures kept { result ≡ Ok false → (library.new ≡ library.old) × (kept.new.sources ≡ kept.old.sources) }
+{
+    if are_unchanged(alloc, disk, request, &kept.sources)? {
+        return Ok(true);
+    }
+    let now = read_sources(
+        alloc,
+        disk,
+        screen,
+        request,
+        kept.unit,
+        &mut kept.told,
+        &kept.sources,
+    )?;
+    if !now.are_whole {
+        return Ok(false);
+    }
+    bring(alloc, library, &kept.sources.texts, &now.texts)?;
+    kept.sources = now;
+    Ok(true)
+}
+
+// Reads the folders again, builds, prints what was done, and uses the program.
+fn build_again<L: FolderLibrary, D: Disk, O: Sink, E: Sink, N: Run>(
+    alloc: Global,
+    disk: &mut D,
+    screen: &mut Screen<O, E>,
+    run: &mut N,
+    library: &mut L,
+    request: &Request<'_>,
+    kept: &mut Kept<'_>,
+    uses: Uses,
+) -> Result<(), Failure>
+    requires { Holds (L.state library.old) kept.old.sources.texts }
+    ensures { OnOk result (Holds (L.state library.new) kept.new.sources.texts) }
+{
+    let start = millis(disk)?;
+    if !read_again(alloc, disk, screen, library, request, kept)? {
+        return Ok(());
+    }
+    let change = rebuild(library, &kept.sources, kept.unit)?;
+    let passed = millis(disk)?.saturating_sub(start);
+    let progress = Progress {
+        checked: library.last_checked().len(),
+        sources: kept.sources.texts.len(),
+        change,
+        millis: passed as usize,
+    };
+    report_progress(alloc, screen, progress)?;
+    let sources = &kept.sources;
+    let _ending = finish_build(alloc, disk, screen, run, library, request, sources, uses)?;
+    Ok(())
+}
+
+pub fn millis<D: Disk>(disk: &D) -> Result<u64, Failure> {
+    match disk.millis() {
+        Ok(millis) => Ok(millis),
+        Err(_) => Err(Failure::Clock),
+    }
+}
+
+/// Builds. Returns what that did to the image.
+pub fn rebuild<L: FolderLibrary>(
+    library: &mut L,
+    sources: &Sources,
+    unit: &Name,
+) -> Result<ImageChange, Failure>
+    requires { Holds (L.state library.old) sources.now.texts }
+    ensures holds { Holds (L.state library.new) sources.now.texts }
+    ensures built { OnOk result (IsBuiltFrom L.meaning (L.state library.new) sources.now.texts unit.now) }
+{
+    let had = image_units(library).is_some();
+    build(library, sources, unit)?;
+    let written = library.patched();
+    match image_units(library) {
+        Some(units) => Ok(image_change(had, true, written, units)),
+        None => Ok(image_change(had, false, written, 0)),
+    }
+}
+
+// Whether the last build gave an image, and of how many units.
+fn image_units<L: FolderLibrary>(library: &L) -> Option<usize> {
+    match library.last()?.outcome {
+        Outcome::Made(order, _) => Some(order.len()),
+        _ => None,
+    }
+}
+
+// Reads the folders again, and lists the units that are obsolete since the last build.
+fn list_obsolete<L: FolderLibrary, D: Disk, O: Sink, E: Sink>(
+    alloc: Global,
+    disk: &D,
+    screen: &mut Screen<O, E>,
+    library: &mut L,
+    request: &Request<'_>,
+    kept: &mut Kept<'_>,
+) -> Result<(), Failure>
+    requires { Holds (L.state library.old) kept.old.sources.texts }
+    ensures { OnOk result (Holds (L.state library.new) kept.new.sources.texts) }
+{
+    if !read_again(alloc, disk, screen, library, request, kept)? {
+        return Ok(());
+    }
+    match library.obsolete() {
+        Ok(units) if units.is_empty() => screen.tell_line(&[b"no unit is obsolete"]),
+        Ok(units) => tell_parts(screen, units.as_slice()),
+        Err(Refusal::NotBuilt) => screen.tell_line(&[b"nothing was built"]),
+        Err(_) => Err(Failure::Memory),
+    }
+}

@@ -1,0 +1,270 @@
+// E301 to E303: declarations and what completes them.
+use crate::file_names::{body_file, is_body_file};
+use crate::note;
+use crate::said::{Said, digits};
+use crate::view::{Found, View};
+use al_sketch::{Declared, DeclaredKind, ScopeKind, Sketch};
+use std::alloc::AllocError;
+
+/// The place of the other declaration of the name.
+pub fn duplicate(view: &View<'_>, said: &mut Said) -> Result<(), AllocError> {
+    let Some(own) = own_declaration(view.sketch, view.at) else {
+        return Ok(());
+    };
+    for found in view.all_named(view.word())?.iter() {
+        if is_other(view, &own, found) {
+            let place = found.place(view.alloc)?;
+            let what = what_is(found.declared.kind);
+            let name = found.name();
+            note!(said; name,
+                b" is declared ",
+                place.as_slice(),
+                b" too, as ",
+                what)?;
+            return tell_overloading(found, said);
+        }
+    }
+    Ok(())
+}
+
+fn tell_overloading(found: &Found<'_>, said: &mut Said) -> Result<(), AllocError> {
+    let is_subprogram = matches!(
+        found.declared.kind,
+        DeclaredKind::Procedure | DeclaredKind::Function
+    );
+    if is_subprogram {
+        return note!(said; b"subprograms of one name need other parameter or result types (ARM 8.3)");
+    }
+    Ok(())
+}
+
+fn own_declaration(sketch: &Sketch, at: usize) -> Option<Declared> {
+    for declared in sketch.declared() {
+        if declared.name == at {
+            return Some(*declared);
+        }
+    }
+    None
+}
+
+// Whether a declaration is in the region of this one, and another.
+fn is_other(view: &View<'_>, own: &Declared, found: &Found<'_>) -> bool {
+    if found.file == view.file {
+        return found.declared.name != own.name && found.declared.scope == own.scope;
+    }
+    let is_unit = view.sketch.is_outermost(own.scope) && own.scope > 0;
+    is_unit && found.sketch.is_outermost(found.declared.scope) && found.declared.scope > 0
+}
+
+/// What a declaration declares, with its article.
+pub fn what_is(kind: DeclaredKind) -> &'static [u8] {
+    match kind {
+        DeclaredKind::Object => b"a variable",
+        DeclaredKind::Constant => b"a constant",
+        DeclaredKind::Number => b"a named number",
+        DeclaredKind::Component => b"a component",
+        DeclaredKind::Formal => b"a parameter",
+        DeclaredKind::LoopParameter => b"a loop parameter",
+        DeclaredKind::Type => b"a type",
+        DeclaredKind::Subtype => b"a subtype",
+        DeclaredKind::Literal => b"an enumeration literal",
+        DeclaredKind::Procedure => b"a procedure",
+        DeclaredKind::Function => b"a function",
+        DeclaredKind::Entry => b"an entry",
+        DeclaredKind::Package => b"a package",
+        DeclaredKind::Task => b"a task",
+        DeclaredKind::Protected => b"a protected object",
+        DeclaredKind::Exception => b"an exception",
+    }
+}
+
+/// Which declarations have no body.
+pub fn missing_completion(view: &View<'_>, said: &mut Said) -> Result<(), AllocError> {
+    for file in view.around {
+        let file = file.as_slice();
+        let is_own = file == view.file;
+        if is_own || is_declaration_of(view, file)? {
+            say_missing(view, file, is_own, said)?;
+        }
+    }
+    Ok(())
+}
+
+// Says which declarations of a file have no body, three at most.
+fn say_missing(
+    view: &View<'_>,
+    file: &[u8],
+    is_own: bool,
+    said: &mut Said,
+) -> Result<(), AllocError> {
+    let Some(sketch) = view.other(file) else {
+        return Ok(());
+    };
+    let scope = scope_of_end(view);
+    for declared in sketch.declared() {
+        let is_here = if is_own {
+            declared.scope == scope
+        } else {
+            declared.scope > 0 && sketch.is_outermost(declared.scope)
+        };
+        if is_here && said.lines.len() < 3 && lacks_body(view, sketch, declared, scope) {
+            let found = Found {
+                file,
+                sketch,
+                declared: *declared,
+            };
+            say_without_body(view, &found, said)?;
+        }
+    }
+    Ok(())
+}
+
+fn lacks_body(view: &View<'_>, sketch: &Sketch, declared: &Declared, scope: usize) -> bool {
+    needs_body(sketch, declared) && !has_body(view, sketch, declared, scope)
+}
+
+fn say_without_body(view: &View<'_>, found: &Found<'_>, said: &mut Said) -> Result<(), AllocError> {
+    let place = found.place(view.alloc)?;
+    note!(said; found.name(),
+        b" has no body: it is ",
+        what_is(found.declared.kind),
+        b", declared ",
+        place.as_slice())
+}
+
+// The scope whose part ends at the place.
+fn scope_of_end(view: &View<'_>) -> usize {
+    view.sketch.scope_at(view.at)
+}
+
+// Whether a file is the declaration whose body the source is.
+fn is_declaration_of(view: &View<'_>, file: &[u8]) -> Result<bool, AllocError> {
+    let unit = view.unit_of(file)?;
+    let body = body_file(view.alloc, unit.as_slice())?;
+    Ok(!is_body_file(file) && body.as_slice() == view.file)
+}
+
+fn needs_body(sketch: &Sketch, declared: &Declared) -> bool {
+    let is_separate = sketch.is(declared.end.saturating_add(1), b"separate")
+        || sketch.is(declared.end, b"separate");
+    let has_one = matches!(
+        declared.kind,
+        DeclaredKind::Procedure
+            | DeclaredKind::Function
+            | DeclaredKind::Task
+            | DeclaredKind::Protected
+    );
+    has_one && !declared.is_body && !is_separate && !is_stub(sketch, declared)
+}
+
+// Whether a specification is one of a stub.
+fn is_stub(sketch: &Sketch, declared: &Declared) -> bool {
+    let end = sketch.declaration_end(declared.name);
+    sketch.is(end.saturating_sub(1), b"separate")
+}
+
+// Whether the source has the body, or a stub, of a declaration.
+fn has_body(view: &View<'_>, of: &Sketch, declared: &Declared, scope: usize) -> bool {
+    let name = of.word(declared.name);
+    for other in view.sketch.declared() {
+        let is_one = other.is_body || is_stub(view.sketch, other);
+        if is_one && other.scope == scope && view.sketch.is(other.name, name) {
+            return true;
+        }
+    }
+    false
+}
+
+/// The place of the declaration, and what differs.
+pub fn not_conformant(view: &View<'_>, said: &mut Said) -> Result<(), AllocError> {
+    let Some(own) = own_declaration(view.sketch, view.at) else {
+        return Ok(());
+    };
+    let own = Found {
+        file: view.file,
+        sketch: view.sketch,
+        declared: own,
+    };
+    for found in view.all_named(view.word())?.iter() {
+        let is_same = found.file == view.file && found.declared.name == own.declared.name;
+        if is_same || (found.file == view.file && found.declared.is_body) {
+            continue;
+        }
+        let place = found.place(view.alloc)?;
+        note!(said; found.name(),
+            b" is declared ",
+            place.as_slice(),
+            b", as ",
+            what_is(found.declared.kind))?;
+        return differs(view, &own, found, said);
+    }
+    Ok(())
+}
+
+// What differs between two specifications.
+fn differs(
+    view: &View<'_>,
+    own: &Found<'_>,
+    other: &Found<'_>,
+    said: &mut Said,
+) -> Result<(), AllocError> {
+    let there = formals_text(other);
+    let here = formals_text(own);
+    if own.declared.kind != other.declared.kind {
+        return note!(said; b"here it is ", what_is(own.declared.kind));
+    }
+    if !own.mark().eq_ignore_ascii_case(other.mark()) {
+        return note!(said; b"there the result is ",
+            other.mark(),
+            b", here ",
+            own.mark());
+    }
+    let (first, last) = differing(own, other);
+    if first < own.declared.formals.1 || last < other.declared.formals.1 {
+        note!(said; b"there it is ", there, b"; here ", here)?;
+        let line = digits(view.alloc, own.sketch.line(first) as usize)?;
+        let here = own.sketch.word(first);
+        note!(said; b"they differ at ", here, b", on line ", line.as_bytes())?;
+    }
+    note!(said; b"names, modes and subtypes are repeated as they are (ARM 6.3.1)")
+}
+
+fn formals_text<'a>(found: &Found<'a>) -> &'a [u8] {
+    let (from, to) = found.declared.formals;
+    if to == 0 {
+        return b"without parameters";
+    }
+    found
+        .sketch
+        .words(from.saturating_sub(1), to.saturating_add(1))
+}
+
+// The first lexemes in which the formals of two specifications differ.
+fn differing(own: &Found<'_>, other: &Found<'_>) -> (usize, usize) {
+    let (mut here, end) = own.declared.formals;
+    let (mut there, other_end) = other.declared.formals;
+    for _lexeme in 0..own.sketch.len() {
+        if here >= end || there >= other_end {
+            break;
+        }
+        if !own.sketch.is(here, other.sketch.word(there)) {
+            break;
+        }
+        here = here.saturating_add(1);
+        there = there.saturating_add(1);
+    }
+    (here, there)
+}
+
+/// The scope that ends at the place, with its name.
+pub fn named_scope(view: &View<'_>) -> Option<usize> {
+    let mut number = view.sketch.scope_at(view.at);
+    for _round in 0..view.sketch.scopes().len() {
+        let scope = view.sketch.scope(number)?;
+        if !matches!(scope.kind, ScopeKind::Block | ScopeKind::Text) {
+            return Some(scope.name);
+        }
+        number = scope.parent;
+    }
+    None
+}

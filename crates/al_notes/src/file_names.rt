@@ -1,0 +1,62 @@
+// Names of files and of units.
+use crate::said::folded;
+use al_base::{Name, UnitKey, UnitKind, file_name_of};
+use std::alloc::{AllocError, Global};
+
+/// The file of a unit's declaration.
+pub fn declaration_file(alloc: Global, unit: &[u8]) -> Result<Vec<u8>, AllocError> {
+    file_of(alloc, unit, UnitKind::Decl)
+}
+
+/// The file of a unit's body, or of a subunit.
+pub fn body_file(alloc: Global, unit: &[u8]) -> Result<Vec<u8>, AllocError> {
+    file_of(alloc, unit, UnitKind::Body)
+}
+
+fn file_of(alloc: Global, unit: &[u8], kind: UnitKind) -> Result<Vec<u8>, AllocError> {
+    let name = Name::new(folded(alloc, unit)?);
+    match file_name_of(alloc, &UnitKey { name, kind }) {
+        Ok(name) => Vec::from_slice(alloc, name.as_slice()),
+        Err(_no_memory) => Err(AllocError),
+    }
+}
+
+/// The unit that a file's name is of.
+pub fn unit_of_file(alloc: Global, file: &[u8]) -> Result<Vec<u8>, AllocError> {
+    let mut unit = Vec::from_slice(alloc, stem(file))?;
+    for byte in unit.iter_mut() {
+        if matches!(*byte, b'-' | b'~') {
+            *byte = b'.';
+        }
+    }
+    Ok(unit)
+}
+
+/// A file's name without its ending.
+pub fn stem(file: &[u8]) -> &[u8] {
+    file.get(..file.len().saturating_sub(4)).unwrap_or(file)
+}
+
+/// Whether a file's name is that of a body or a subunit.
+pub fn is_body_file(file: &[u8]) -> bool {
+    matches!(file.last(), Some(b'b'))
+}
+
+/// The parent of a unit, if its name has one.
+pub fn parent_of(unit: &[u8]) -> Option<&[u8]> {
+    let mut dot = None;
+    for (at, byte) in unit.iter().enumerate() {
+        if *byte == b'.' {
+            dot = Some(at);
+        }
+    }
+    unit.get(..dot?)
+}
+
+/// The last identifier of a unit's name.
+pub fn last_of(unit: &[u8]) -> &[u8] {
+    match parent_of(unit) {
+        Some(parent) => unit.get(parent.len().saturating_add(1)..).unwrap_or(&[]),
+        None => unit,
+    }
+}

@@ -1,0 +1,138 @@
+// Notes on a diagnostic.
+use crate::around::files_around;
+use crate::file_names::stem;
+use crate::predefined::predefined_text;
+use crate::said::Said;
+use crate::telling::tell;
+use crate::view::View;
+use al_base::{Diagnostic, Files};
+use al_expected::Grammar;
+use al_sketch::Sketch;
+use std::alloc::{AllocError, Global};
+use std::collections::BTreeMap;
+
+/// Makes notes on diagnostics of some files.
+#[derive(Drop)]
+pub struct Notes<'a> {
+    alloc: Global,
+    texts: &'a Files,
+    sketches: BTreeMap<Vec<u8>, Sketch>,
+    grammar: Grammar,
+}
+
+impl<'a> Notes<'a> {
+    /// Notes on diagnostics of these files.
+    ///
+    /// # Errors
+    ///
+    /// If out of memory.
+    pub fn over(alloc: Global, texts: &'a Files) -> Result<Notes<'a>, AllocError> {
+        let grammar = Grammar::new(alloc)?;
+        Ok(Notes {
+            alloc,
+            texts,
+            sketches: BTreeMap::new(alloc),
+            grammar,
+        })
+    }
+
+    /// What is said of a diagnostic, a line each, without its `note: `.
+    ///
+    /// # Errors
+    ///
+    /// If out of memory.
+    pub fn of(&mut self, found: &Diagnostic) -> Result<Vec<Vec<u8>>, AllocError> {
+        let file = found.file.as_slice();
+        self.load(file)?;
+        let around = self.load_around(file, found.code)?;
+        let mut said = Said::new(self.alloc);
+        if let Some(sketch) = self.sketches.get(file) {
+            let view = View {
+                alloc: self.alloc,
+                texts: self.texts,
+                sketches: &self.sketches,
+                around: around.as_slice(),
+                file,
+                sketch,
+                at: sketch.first_at(found.place.line, found.place.col),
+                grammar: &self.grammar,
+            };
+            tell(&view, found.code, &mut said)?;
+        }
+        Ok(said.lines)
+    }
+
+    // Has the sketch of a file, or of a predefined unit, ready.
+    fn load(&mut self, file: &[u8]) -> Result<(), AllocError> {
+        if self.sketches.get(file).is_some() {
+            return Ok(());
+        }
+        let found = match self.texts.get(file) {
+            Some(text) => Some(text),
+            None => predefined_text(file),
+        };
+        if let Some(text) = found {
+            let sketch = Sketch::of(self.alloc, text)?;
+            let name = Vec::from_slice(self.alloc, file)?;
+            self.sketches.insert(name, sketch)?;
+        }
+        Ok(())
+    }
+
+    // Has the sketches of the files ready whose declarations can be seen in a file, and names these.
+    fn load_around(&mut self, file: &[u8], code: u16) -> Result<Vec<Vec<u8>>, AllocError> {
+        let mut around = Vec::new(self.alloc);
+        around.push(Vec::from_slice(self.alloc, file)?)?;
+        if code < 200 {
+            return Ok(around);
+        }
+        for number in 0..MOST_AROUND {
+            let Some(name) = around.get(number) else {
+                break;
+            };
+            let name = Vec::from_slice(self.alloc, name.as_slice())?;
+            self.load(name.as_slice())?;
+            if number == 0 || is_above(name.as_slice(), file) {
+                self.add_around(name.as_slice(), number == 0, &mut around)?;
+            }
+        }
+        Ok(around)
+    }
+
+    // Adds what is named in a file of those around; of the first one, of its declaration and of what is above it.
+    fn add_around(
+        &self,
+        name: &[u8],
+        is_first: bool,
+        around: &mut Vec<Vec<u8>>,
+    ) -> Result<(), AllocError> {
+        let Some(sketch) = self.sketches.get(name) else {
+            return Ok(());
+        };
+        let named = files_around(self.alloc, self.texts, name, sketch, is_first)?;
+        for other in named {
+            if !is_among(around.as_slice(), other.as_slice()) {
+                around.push(other)?;
+            }
+        }
+        Ok(())
+    }
+}
+
+/// How many files are read for one diagnostic at most.
+const MOST_AROUND: usize = 64;
+
+// Whether a file is the declaration of a file's unit, or of one above it.
+fn is_above(name: &[u8], file: &[u8]) -> bool {
+    let above = stem(name);
+    stem(file).get(..above.len()) == Some(above)
+}
+
+fn is_among(names: &[Vec<u8>], name: &[u8]) -> bool {
+    for other in names {
+        if other.as_slice() == name {
+            return true;
+        }
+    }
+    false
+}

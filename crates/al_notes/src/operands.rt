@@ -1,0 +1,212 @@
+// Operators whose operands don't fit, and attributes that there aren't.
+use crate::names::{head_of, kind_of_name};
+use crate::note;
+use crate::said::{Said, say_outside};
+use crate::types::{Kind, is_boolean_operator, is_no_integer};
+use crate::view::View;
+use al_sketch::{LexemeKind, Sketch};
+use std::alloc::AllocError;
+
+/// Says of the first operator from a lexeme to the one before that of which types its operands are, where these don't fit: outside the
+/// parentheses of calls, or inside them.
+pub fn check_operands(
+    view: &View<'_>,
+    from: usize,
+    to: usize,
+    is_inside: bool,
+    said: &mut Said,
+) -> Result<(), AllocError> {
+    let mut left = Kind::Unknown;
+    let mut operator: Option<usize> = None;
+    let mut at = from;
+    for _lexeme in from..to {
+        if at >= to || !said.lines.is_empty() {
+            break;
+        }
+        if let Some((right, end)) = operand_at(view, at, is_inside, said)? {
+            if let Some(index) = operator {
+                tell_operator(view, index, left, right, said)?;
+            }
+            left = right;
+            operator = None;
+            at = end.max(at.saturating_add(1));
+            continue;
+        }
+        let word = view.sketch.word(at);
+        if is_operator(word) {
+            operator = Some(at);
+        } else if word != b"(".as_slice() {
+            left = Kind::Unknown;
+            operator = None;
+        }
+        at = at.saturating_add(1);
+    }
+    Ok(())
+}
+
+/// Says of an aggregate from a lexeme to the one before that, that it isn't allowed there.
+pub fn check_aggregates(
+    view: &View<'_>,
+    from: usize,
+    to: usize,
+    said: &mut Said,
+) -> Result<(), AllocError> {
+    for index in from..to {
+        if said.lines.is_empty() && is_misplaced_aggregate(view.sketch, index) {
+            say_outside(
+                b"an aggregate inside another one, as an operand, an argument or a result",
+                said,
+            )?;
+            note!(said; b"instead: assign it alone, or qualify it: T'(1, 2)")?;
+        }
+    }
+    Ok(())
+}
+
+// Whether an aggregate that isn't allowed opens at a lexeme.
+fn is_misplaced_aggregate(sketch: &Sketch, open: usize) -> bool {
+    let before = open.saturating_sub(1);
+    let is_allowed = sketch.is(before, b":=")
+        || sketch.is(before, b"'")
+        || sketch.is(before, b")")
+        || sketch.is_identifier(before)
+        || sketch.is(before, b"range")
+        || sketch.is(before, b"array")
+        || sketch.kind(before) == Some(LexemeKind::Text);
+    if !sketch.is(open, b"(") || open == 0 || is_allowed {
+        return false;
+    }
+    let mut depth = 0usize;
+    for index in open..sketch.closing(open) {
+        if sketch.is(index, b"(") {
+            depth = depth.saturating_add(1);
+        } else if sketch.is(index, b")") {
+            depth = depth.saturating_sub(1);
+        } else if depth == 1 && (sketch.is(index, b",") || sketch.is(index, b"others")) {
+            return true;
+        }
+    }
+    false
+}
+
+// The operand that begins at a lexeme, and the lexeme behind it.
+fn operand_at<'a>(
+    view: &View<'a>,
+    at: usize,
+    is_inside: bool,
+    said: &mut Said,
+) -> Result<Option<(Kind<'a>, usize)>, AllocError> {
+    let behind = at.saturating_add(1);
+    match view.sketch.kind(at) {
+        Some(LexemeKind::Number) => Ok(Some((Kind::Universal, behind))),
+        Some(LexemeKind::Text) => Ok(Some((Kind::Text, behind))),
+        Some(LexemeKind::Identifier) => {
+            let (kind, end) = kind_of_name(view, at)?;
+            check_attributes(view, at, end, said)?;
+            let (_some, head) = head_of(view, at)?;
+            if is_inside && view.sketch.is(head, b"(") {
+                return Ok(Some((Kind::Unknown, head)));
+            }
+            Ok(Some((kind, end)))
+        }
+        _ => Ok(None),
+    }
+}
+
+fn is_operator(word: &[u8]) -> bool {
+    matches!(
+        word,
+        b"+" | b"-" | b"*" | b"/" | b"&" | b"=" | b"/=" | b"<" | b"<=" | b">" | b">="
+    ) || word.eq_ignore_ascii_case(b"mod")
+        || word.eq_ignore_ascii_case(b"rem")
+}
+
+fn tell_operator<'a>(
+    view: &View<'a>,
+    index: usize,
+    left: Kind<'a>,
+    right: Kind<'a>,
+    said: &mut Said,
+) -> Result<(), AllocError> {
+    let word = view.sketch.word(index);
+    if word == b"&".as_slice() {
+        return tell_joined(left, right, said);
+    }
+    if is_time(&left) || is_time(&right) {
+        return Ok(());
+    }
+    let is_text = matches!(left, Kind::Text) || matches!(right, Kind::Text);
+    if is_text && word == b"+".as_slice() {
+        return note!(said; b"strings are joined by &");
+    }
+    if left.differs(&right) {
+        return note!(said; b"the operands of ",
+            word,
+            b" are of ",
+            left.name(),
+            b" and ",
+            right.name());
+    }
+    let is_arithmetic = !is_boolean_operator(word);
+    if let Kind::Of(found) = right {
+        if is_arithmetic && is_no_integer(&found) {
+            return note!(said; b"there is no ", word, b" for ", found.name());
+        }
+    }
+    Ok(())
+}
+
+// Whether a type is one of Ada.Real_Time's, which have operators of two types.
+fn is_time(kind: &Kind<'_>) -> bool {
+    match kind {
+        Kind::Of(found) => found.file == b"ada.real_time".as_slice(),
+        _ => false,
+    }
+}
+
+fn tell_joined(left: Kind<'_>, right: Kind<'_>, said: &mut Said) -> Result<(), AllocError> {
+    for kind in [left, right] {
+        if let Kind::Of(found) = kind {
+            let name = found.name();
+            return note!(said; b"& joins strings, and an operand is of ",
+                name,
+                b": ",
+                name,
+                b"'Image (..)");
+        }
+    }
+    Ok(())
+}
+
+/// Says of an attribute that there isn't.
+pub fn check_attributes(
+    view: &View<'_>,
+    from: usize,
+    to: usize,
+    said: &mut Said,
+) -> Result<(), AllocError> {
+    for index in from..to {
+        let name = index.saturating_add(1);
+        if view.sketch.is(index, b"'") && view.sketch.is_identifier(name) {
+            let word = view.sketch.word(name);
+            if !is_attribute(word) && said.lines.is_empty() {
+                note!(said; b"the attribute ",
+                    word,
+                    b" isn't in this subset of Ada (docs/language.md#what-there-is)")?;
+                note!(said; b"the attributes are First, Last, Length, Range, Image, Pos, Val, Succ and Pred")?;
+            }
+        }
+    }
+    Ok(())
+}
+
+fn is_attribute(word: &[u8]) -> bool {
+    for name in [
+        "first", "last", "length", "range", "image", "pos", "val", "succ", "pred",
+    ] {
+        if word.eq_ignore_ascii_case(name.as_bytes()) {
+            return true;
+        }
+    }
+    false
+}

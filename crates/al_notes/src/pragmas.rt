@@ -1,0 +1,110 @@
+// E307: pragmas.
+use crate::near::Nearest;
+use crate::note;
+use crate::said::Said;
+use crate::view::View;
+use std::alloc::AllocError;
+
+/// What the pragma is, and which there are.
+pub fn bad_pragma(view: &View<'_>, said: &mut Said) -> Result<(), AllocError> {
+    let name = view.word();
+    if holds_anyway(view) {
+        let argument = view.sketch.word(view.at.saturating_add(2));
+        note!(said; name, b" (", argument, b") is what holds anyway: tasks and protected objects are those of the Ravenscar profile, with priorities and ceilings; leave the pragma out")?;
+        return there_are(said);
+    }
+    if name.eq_ignore_ascii_case(b"elaborate") || name.eq_ignore_ascii_case(b"elaborate_all") {
+        return note!(said; name,
+            b" belongs in a context clause, after the with clause of the units that it names: with P; pragma ",
+            name,
+            b" (P);");
+    }
+    if name.eq_ignore_ascii_case(b"elaborate_body") {
+        return note!(said; b"Elaborate_Body belongs in a package's declaration, without an argument or with the package's name");
+    }
+    if is_of_ada(name) {
+        note!(said; b"pragma ",
+            name,
+            b" isn't in this subset of Ada (docs/language.md#what-there-is): leave it out")?;
+        return there_are(said);
+    }
+    let mut nearest = Nearest::to(view.alloc, name)?;
+    nearest.see(b"Elaborate")?;
+    nearest.see(b"Elaborate_All")?;
+    nearest.see(b"Elaborate_Body")?;
+    if let Some(other) = &nearest.name {
+        note!(said; b"did you mean ", other.as_slice(), b"?")?;
+    }
+    there_are(said)
+}
+
+fn there_are(said: &mut Said) -> Result<(), AllocError> {
+    note!(said; b"the pragmas are Elaborate and Elaborate_All in context clauses, and Elaborate_Body in a package's declaration")
+}
+
+// Whether a pragma asks for what holds in every program.
+fn holds_anyway(view: &View<'_>) -> bool {
+    let name = view.word();
+    let argument = view.sketch.word(view.at.saturating_add(2));
+    let is_profile = name.eq_ignore_ascii_case(b"profile")
+        && argument.eq_ignore_ascii_case(b"ravenscar");
+    let is_locking = name.eq_ignore_ascii_case(b"locking_policy")
+        && argument.eq_ignore_ascii_case(b"ceiling_locking");
+    let is_dispatching = name.eq_ignore_ascii_case(b"task_dispatching_policy")
+        && argument.eq_ignore_ascii_case(b"fifo_within_priorities");
+    let is_order = name.eq_ignore_ascii_case(b"partition_elaboration_policy")
+        && argument.eq_ignore_ascii_case(b"concurrent");
+    is_profile || is_locking || is_dispatching || is_order
+}
+
+const OF_ADA: [&str; 40] = [
+    "all_calls_remote",
+    "assert",
+    "assertion_policy",
+    "asynchronous",
+    "atomic",
+    "attach_handler",
+    "convention",
+    "cpu",
+    "detect_blocking",
+    "discard_names",
+    "dispatching_domain",
+    "export",
+    "import",
+    "independent",
+    "inline",
+    "inspection_point",
+    "interrupt_handler",
+    "interrupt_priority",
+    "linker_options",
+    "list",
+    "locking_policy",
+    "no_return",
+    "normalize_scalars",
+    "optimize",
+    "pack",
+    "page",
+    "partition_elaboration_policy",
+    "preelaborate",
+    "preelaborable_initialization",
+    "priority",
+    "profile",
+    "pure",
+    "queuing_policy",
+    "restrictions",
+    "suppress",
+    "task_dispatching_policy",
+    "unsuppress",
+    "volatile",
+    "warnings",
+    "spark_mode",
+];
+
+fn is_of_ada(name: &[u8]) -> bool {
+    for other in &OF_ADA {
+        if name.eq_ignore_ascii_case(other.as_bytes()) {
+            return true;
+        }
+    }
+    false
+}

@@ -1,0 +1,5 @@
+use Rattle.std.proofs.Common.{◌≡◌, IsOk}
+use Rattle.al_report.proofs.text.emit_all.Given as goal
+
+abbrev pub invariant-loop-noted : goal.invariant-loop-noted
+invariant-loop-noted g l = IsOk l.so_far → IsOk l.fn.so_far × (g.K.Sink.faults l.writer ≡ g.K.Sink.faults l.fn.writer)

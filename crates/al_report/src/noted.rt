@@ -1,0 +1,48 @@
+// Diagnostics with their notes.
+use al_base::{Diagnostic, Files};
+use al_notes::Notes;
+use std::alloc::{AllocError, Global};
+
+/// A diagnostic that is printed, with its notes, a line each.
+#[derive(Drop)]
+pub struct Noted<'a> {
+    pub diagnostic: &'a Diagnostic,
+    pub notes: Vec<Vec<u8>>,
+}
+
+/// Whether a diagnostic only says that others are to be mended first.
+pub(crate) fn is_dependent(diagnostic: &Diagnostic) -> bool {
+    diagnostic.code == 208
+}
+
+/// The diagnostics that are printed, in their order: all of them, or those that don't only say that others are to be mended first.
+/// Notes on them are made from the files' sources, where they are wanted.
+///
+/// # Errors
+///
+/// If out of memory.
+pub fn noted_of<'a>(
+    alloc: Global,
+    texts: &Files,
+    found: &'a [Diagnostic],
+    lists_all: bool,
+    has_notes: bool,
+) -> Result<Vec<Noted<'a>>, AllocError> {
+    let mut told = Vec::new(alloc);
+    let mut notes = Notes::over(alloc, texts)?;
+    for diagnostic in found {
+        if !lists_all && is_dependent(diagnostic) {
+            continue;
+        }
+        let lines = if has_notes {
+            notes.of(diagnostic)?
+        } else {
+            Vec::new(alloc)
+        };
+        told.push(Noted {
+            diagnostic,
+            notes: lines,
+        })?;
+    }
+    Ok(told)
+}

@@ -1,0 +1,23 @@
+//! What a program did, as a trace: which task ran, was ready, was delayed or waited, inside which protected object and with which
+//! priority, event by event. A trace is written as text, as a value change dump, as trace events in JSON, or as a chart.
+//!
+//! - [`Trace`] looks on at a run (`World::watched_run_on`) and writes a row for each change; the run is the same without it.
+//! - The ending of a file's name gives the [`TraceFormat`].
+#![tactic(auto)]
+
+mod chart;
+mod format;
+mod json;
+mod moment;
+mod names;
+mod output;
+mod picture;
+mod report;
+mod rows;
+mod text;
+mod tracing;
+mod value_changes;
+
+pub use format::TraceFormat;
+pub use report::task_report;
+pub use tracing::Trace;

@@ -1,0 +1,206 @@
+#!/usr/bin/env python3
+"""diagnostics.py ADABUILD: what the built program `adabuild` prints of diagnostics. diagnostics.py --write: makes docs/diagnostics.md.
+diagnostics.py --gnat ADABUILD: makes tests/messages.md, what GNAT and adabuild print for each page's wrong source.
+
+docs/diagnostics.md has the rules of al_explain, and has to be as --write makes it. Each page's wrong source has to give its code, and its right source
+to build; `--explain` prints each page, and refuses other codes. `--format json` writes an object a line, `--format sarif` one document that the schema
+takes (tests/sarif.json: what SARIF 2.1.0 says of the parts that occur). One wrong line prints under ten lines. Prints each failure, and last
+`N passed, M failed`.
+"""
+import json
+import pathlib
+import re
+import subprocess
+import sys
+import tempfile
+import time
+
+try:
+    import jsonschema
+except ImportError:
+    jsonschema = None
+
+TESTS = pathlib.Path(__file__).resolve().parent
+TOP = TESTS.parent
+
+
+def table(file, name):
+    """The text of a table."""
+    text = (TOP / file).read_text()
+    found = re.search(rf'pub const {name}: &str =\s*"((?:[^"\\]|\\.)*)";', text)
+    return found.group(1).replace('\\"', '"').replace("\\\\", "\\")
+
+
+def pages():
+    """The pages of al_explain, as dictionaries."""
+    parts = table("crates/al_explain/src/table.rt", "PAGES").split("%")[1:]
+    for head, wrong, right in zip(parts[::3], parts[1::3], parts[2::3]):
+        code, clauses, rule = head.split("|")
+        yield {"code": int(code), "clauses": clauses, "rule": rule, "wrong": wrong, "right": right}
+
+
+def messages():
+    """What each rule says."""
+    return dict(re.findall(r'b"E(\d\d\d) ([^"]*)"', (TOP / "crates/al_base_words/src/message.rt").read_text()))
+
+
+def indented(text):
+    return "".join(f"    {line}\n" for line in text.splitlines())
+
+
+def page_text(page):
+    code = f"{page['code']:03}"
+    head = f"E{code} {messages()[code]}\n\n{page['rule']} ({page['clauses']})\n\n"
+    return head + f"Wrong:\n\n{indented(page['wrong'])}\nRight:\n\n{indented(page['right'])}"
+
+
+def diagnostics_page():
+    text = "# Diagnostics\n\nThe rule behind each code, with its clauses of the Manual; `adabuild --explain CODE` prints it with a source that breaks it and one that\nis right. Made by `tests/diagnostics.py --write` from the table of `al_explain`. [protocol.md](protocol.md) says when a code is reported.\n\n"
+    return text + "".join(f"- **E{page['code']:03}** {page['rule']} ({page['clauses'].replace('ARM ', '')})\n" for page in pages())
+
+
+PAGES = {"docs/diagnostics.md": diagnostics_page}
+
+
+class Count:
+    def __init__(self):
+        self.passed = 0
+        self.failed = 0
+
+    def check(self, name, holds, told=""):
+        self.passed += bool(holds)
+        self.failed += not holds
+        if not holds:
+            print(f"{name}: failed {str(told)[:600]}")
+
+
+def laid(room, text):
+    """The files of a text, each after a line `-- FILE`, in a new folder."""
+    folder = pathlib.Path(tempfile.mkdtemp(dir=room))
+    parts = re.split(r"(?m)^-- (?=[a-z0-9_~-]+\.ad[sb]$)", text)[1:]
+    for part in parts:
+        name, _, body = part.partition("\n")
+        (folder / name).write_text(body)
+    return folder
+
+
+def run(program, *words):
+    return subprocess.run([program, *map(str, words)], capture_output=True, text=True, errors="replace", timeout=120)
+
+
+def try_pages(program, room, count):
+    for page in pages():
+        code = f"E{page['code']:03}"
+        said = run(program, "--explain", code)
+        count.check(f"--explain {code}", said.returncode == 0 and said.stdout == page_text(page), said.stdout)
+        said = run(program, "--all", "main", laid(room, page["wrong"]))
+        count.check(f"{code}, wrong", said.returncode == 1 and f"error: {code} " in said.stderr, said.stderr)
+        said = run(program, "--all", "main", laid(room, page["right"]))
+        count.check(f"{code}, right", said.returncode == 0, said.stderr)
+    for word in ("E999", "402", "E4O2", ""):
+        count.check(f"--explain {word!r}", run(program, "--explain", word).returncode == 2)
+
+
+FAULTY = '-- main.adb\nwith Base;\nprocedure Main is\n   X : Integer := Totl;\nbegin\n   X := True;\nend Main;\n-- base.ads\npackage Base is\n   type T is record\n      N : Integer := 0;\n   end record;\nend Base;\n'
+STRAY = "-- main.adb\nprocedure Main is\n   Total : Integer := 0;\nbegin\n   Totl := 1;\nend Main;\n"
+
+
+def try_json(program, room, count):
+    folder = laid(room, STRAY)
+    lines = run(program, "--format", "json", "main", folder).stderr.splitlines()
+    objects = [json.loads(line) for line in lines]
+    found = [one for one in objects if one["kind"] == "diagnostic"]
+    count.check("json: one diagnostic", len(found) == 1, lines)
+    if found:
+        one = found[0]
+        wanted = {"kind": "diagnostic", "file": f"{folder}/main.adb", "line": 4, "col": 4, "end_col": 8, "code": "E401", "text": "not visible"}
+        count.check("json: its members", {key: one.get(key) for key in wanted} == wanted, one)
+        count.check("json: its notes", any("Total" in note for note in one["notes"]), one)
+    builds = [one for one in objects if one["kind"] == "build"]
+    count.check("json: a build", builds and set(builds[0]) == {"kind", "checked", "units", "image", "ms"}, objects)
+    right = laid(room, "-- main.adb\nprocedure Main is\n   X : Integer := 0;\nbegin\n   X := 1 / X;\nend Main;\n")
+    ended = [json.loads(line) for line in run(program, "--format", "json", "--run", "main", right).stderr.splitlines()]
+    count.check("json: an end", ended and ended[-1] == {"kind": "end", "outcome": "raised", "exception": "constraint_error", "file": f"{right}/main.adb", "line": 4}, ended)
+
+
+def try_sarif(program, room, count):
+    schema = json.loads((TESTS / "sarif.json").read_text())
+    for text in (STRAY, FAULTY):
+        said = run(program, "--format", "sarif", "main", laid(room, text)).stderr
+        document = json.loads(said)
+        if jsonschema is None:
+            print("sarif: Python's jsonschema isn't there, so the schema wasn't tried")
+        else:
+            errors = list(jsonschema.Draft7Validator(schema).iter_errors(document))
+            count.check("sarif: its schema", not errors, errors)
+        count.check("sarif: a result", document["runs"][0]["results"][0]["ruleId"].startswith("E"), said)
+
+
+def try_many(program, room, count):
+    """An error on which 1,000 units depend, and 1,000 units with an error each."""
+    main = "-- main.adb\n" + "".join(f"with P{n};\n" for n in range(1000)) + "procedure Main is\nbegin\n   null;\nend Main;\n"
+    base = "-- base.ads\npackage Base is\n   Size : Intger := 4;\nend Base;\n"
+    units = "".join(f"-- p{n}.ads\nwith Base;\npackage P{n} is\n   N : constant Integer := Base.Size;\nend P{n};\n" for n in range(1000))
+    said = run(program, "main", laid(room, main + base + units)).stderr
+    count.check("one wrong line", len(said.splitlines()) < 10 and "\n1 error\n1001 units depend on these" in said, said)
+    good = base.replace("Intger", "Integer")
+    folder = laid(room, main + good + units.replace("Base.Size", "Base.Sise"))
+    best = {}
+    for words in (("--plain",), ()):
+        times = []
+        for _ in range(5):
+            start = time.monotonic()
+            said = run(program, *words, "main", folder).stderr
+            times.append(time.monotonic() - start)
+        best[words] = min(times)
+    count.check("1,000 notes", said.count("note: ") >= 1000, said)
+    spent = best[()] - best[("--plain",)]
+    print(f"notes of 1,000 faulty units: {1000 * spent:.0f} ms")
+    count.check("1,000 notes in time", spent < 5.0, spent)
+
+
+def first_messages(text):
+    """What GNAT prints at the place of its first error."""
+    found = re.findall(r"(?m)^(\S+?:\d+:\d+): (?:error: )?(.*)$", text)
+    return "; ".join(message for place, message in found if place == found[0][0])
+
+
+def gnat_table(program, room):
+    text = "# What GNAT and adabuild print\n\nFor the wrong source of each page of `al_explain`: what GNAT prints at its first error, and what `adabuild` prints with its notes. Made by\n`python3 tests/diagnostics.py --gnat out/adabuild`.\n\n| Source | GNAT | adabuild |\n|---|---|---|\n"
+    for page in pages():
+        folder = laid(room, page["wrong"])
+        said = subprocess.run(["gnatmake", "-q", "-gnatc", "-gnatwn", "main.adb"], cwd=folder, capture_output=True, text=True)
+        gnat = first_messages(said.stderr) or "nothing"
+        own = run(program, "--all", "main", folder).stderr.splitlines()
+        at = next((n for n, line in enumerate(own) if f"error: E{page['code']:03} " in line), None)
+        if at is not None:
+            line = own[at + 1].strip()[:60]
+            notes = [it.removeprefix("note: ") for it in own[at + 3 :]]
+            notes = notes[: next((n for n, it in enumerate(notes) if not own[at + 3 + n].startswith("note: ")), len(notes))]
+            cells = [f"`{line}`", gnat, "; ".join([own[at].split("error: ")[1], *notes])]
+            text += "| " + " | ".join(it.replace("|", "\\|").replace(str(folder), "") for it in cells) + " |\n"
+    return text
+
+
+def main(word, *more):
+    if word == "--write":
+        for file, made in PAGES.items():
+            (TOP / file).write_text(made())
+        return 0
+    if word == "--gnat":
+        with tempfile.TemporaryDirectory() as room:
+            (TESTS / "messages.md").write_text(gnat_table(str(pathlib.Path(more[0]).resolve()), room))
+        return 0
+    count = Count()
+    for file, made in PAGES.items():
+        count.check(file, (TOP / file).exists() and (TOP / file).read_text() == made())
+    program = str(pathlib.Path(word).resolve())
+    with tempfile.TemporaryDirectory() as room:
+        for part in (try_pages, try_json, try_sarif, try_many):
+            part(program, room, count)
+    print(f"{count.passed} passed, {count.failed} failed")
+    return 1 if count.failed else 0
+
+
+if __name__ == "__main__":
+    sys.exit(main(*sys.argv[1:]))
