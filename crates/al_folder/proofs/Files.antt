@@ -1,4 +1,4 @@
--- How long the names of files are.
+-- The length of the names of files.
 use Rattle.std.proofs.Common.{◌≡◌, ℕ, ◌+◌, ◌==◌, ◌&&◌, cond, true, false, List, [], ◌∷◌, ◌++◌, length, map, refl, ap, ap₂, ◌∙◌}
 use Rattle.std.proofs.lemmas.List.{length-append, length-map}
 use Rattle.al_base.specs.declared.unit_key.UnitKind.{UnitKind}

@@ -1,4 +1,4 @@
--- What stands for a byte, case by case.
+-- How a byte is shown, case by case.
 use Rattle.std.proofs.Common.{◌≡◌, ◌≤◌, ◌<◌, ◌+◌, ℕ, List, [], ◌∷◌, codes, arith}
 use Rattle.al_folder.specs.Messages.{shown_byte}
 

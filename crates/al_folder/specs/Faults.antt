@@ -1,4 +1,4 @@
--- Why a sound library has no program.
+-- Why a library without errors has no program.
 use Rattle.std.specs.Prelude.{ℕ, ◌++◌, List, codes}
 use Rattle.std.specs.List.{flat_map}
 use Rattle.al_base.specs.Batch.{Key}
@@ -6,7 +6,7 @@ use Rattle.al_base_graph.specs.declared.edge.Reason.{Reason}
 use Rattle.al_base_graph.specs.declared.edge.Reason.TheVariants.{Depends, Elaborate, ElaborateAll}
 use Rattle.al_folder.specs.Parts.{part_words}
 
--- a part of a program that is wanting, by its name
+-- a part of the program that is missing, by its name
 abbrev pub no_main : List ℕ → List ℕ
 no_main name = codes "error: " ++ name ++ codes " is no procedure of the library without parameters\n"
 
@@ -25,7 +25,7 @@ reason_words Depends = codes ", on which it depends\n"
 reason_words Elaborate = codes ", which a pragma Elaborate names\n"
 reason_words ElaborateAll = codes ", which a pragma Elaborate_All reaches\n"
 
--- one step of a cycle: an item, that after which it comes, and why
+-- one step of a cycle: an item, the one that it comes after, and why
 abbrev pub step_line : Key × Key × Reason → List ℕ
 step_line step = codes "  " ++ part_words step.0 ++ codes " after " ++ part_words step.1 ++ reason_words step.2
 

@@ -3,7 +3,7 @@ use Rattle.std.specs.Prelude.{ℕ, ◌&&◌, nat_lt, nat_le, List, length, Optio
 use Rattle.std.specs.Str.{all_ascii_digits}
 use Rattle.std.specs.Str.Parse.{digits_value}
 
--- one or more digits, which write a number from 1 to the most
+-- one or more digits that write a number from 1 to the most
 abbrev pub number_of : ℕ → List ℕ → Option ℕ
 number_of most word =
     let number = digits_value 10 word in

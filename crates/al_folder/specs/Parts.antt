@@ -1,4 +1,4 @@
--- What is told of units.
+-- Units, as they are printed.
 use Rattle.std.specs.Prelude.{ℕ, ◌++◌, List, codes}
 use Rattle.std.specs.List.{flat_map}
 use Rattle.al_base.specs.declared.unit_key.UnitKind.{UnitKind}
@@ -16,6 +16,6 @@ part_words key = part_word key.1 ++ key.0
 abbrev pub part_line : Key → List ℕ
 part_line key = part_words key ++ codes "\n"
 
--- a line for each
+-- a line for each unit
 abbrev pub part_lines : List Key → List ℕ
 part_lines keys = flat_map part_line keys

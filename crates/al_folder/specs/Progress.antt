@@ -1,9 +1,10 @@
--- What is told of what a build did.
+-- What a build did, as it is printed.
 use Rattle.std.specs.Prelude.{ℕ, Bool, true, false, ◌++◌, ◌==◌, nat_lt, List, codes, decimal, if◌then◌else◌}
 use Rattle.al_folder.specs.declared.progress.ImageChange.{ImageChange}
 use Rattle.al_folder.specs.declared.progress.ImageChange.TheVariants.{Absent, Made, Patched, Kept}
 
--- what a build did to the image: whether there was one before, whether there is one now, and into how many of so many units' code it wrote
+-- what a build did to the image: whether there was one before, whether there is one now, and into the code of how many of the
+-- units it wrote
 abbrev pub change_of : Bool → Bool → ℕ → ℕ → ImageChange
 change_of had false written units = Absent
 change_of false true written units = Made

@@ -1,4 +1,4 @@
--- What is told of a run's end.
+-- The end of a run, as it is printed.
 use Rattle.std.specs.Prelude.{ℕ, ◌++◌, nat_lt, List, [], length, codes, decimal, Option, Some, None, if◌then◌else◌}
 use Rattle.al_base.specs.Batch.{Key, key_of}
 use Rattle.al_base.specs.FileNames.{file_name_of}
@@ -14,20 +14,20 @@ exception_word Constraint = codes "constraint_error"
 exception_word Program = codes "program_error"
 exception_word Storage = codes "storage_error"
 
--- the file that holds the unit; the unit's name where that file's would be longer than any
+-- the name of the file that holds the unit; the unit's name if that file's name would be too long
 abbrev pub file_words : Key → List ℕ
 file_words key = if nat_lt 251 (length key.0) then key.0 else file_name_of key
 
--- the line of the file, where it is known
+-- the number of a line, if it is known
 abbrev pub line_words : Option ℕ → List ℕ
 line_words None = codes "\n"
 line_words (Some line) = codes ":" ++ decimal line ++ codes "\n"
 
--- a file behind its folder
+-- a file after its folder
 abbrev pub named_words : Texts → List ℕ → List ℕ
 named_words folders file = folder_words (folder_of folders file) ++ file
 
--- nothing where all is done; the files stand in these folders
+-- nothing if all tasks have ended; the files are in these folders
 abbrev pub end_text : Texts → RunEnd → List ℕ
 end_text folders Finished = []
 end_text folders Idle = codes "idle: each task waits, and nothing can wake one\n"

@@ -11,7 +11,7 @@ status_of NotBuilt = 1
 status_of Usage = 2
 status_of ByException = 3
 
--- the end of a program that was run: a program that waits for ever, or whose steps are spent, is done
+-- the end of a program that ran an image: if the run waits for ever, or its steps are used up, all is done
 abbrev pub ending_of : RunEnd → Ending
 ending_of Finished = Done
 ending_of Idle = Done

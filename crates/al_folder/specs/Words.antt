@@ -1,4 +1,4 @@
--- What a line of the standard input asks for.
+-- The commands of a watch.
 use Rattle.std.specs.Prelude.{ℕ, List, codes, if◌then◌else◌}
 use Rattle.std.specs.Str.{bytes_eq}
 use Rattle.al_folder.specs.declared.words.WatchWord.{WatchWord}

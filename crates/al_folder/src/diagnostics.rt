@@ -1,4 +1,4 @@
-// What is told of diagnostics.
+// Diagnostics, as they are printed.
 ghost use Rattle.std.specs.Prelude.{◌≡◌, ◌-◌, ◌^◌, ◌<◌, IsOk, map, option_map};
 ghost use Rattle.std.specs.List.{flat_map};
 ghost use Rattle.al_base.specs.Batch.{finding_of};
@@ -11,7 +11,7 @@ use al_base::{Diagnostic, Files, Place};
 use al_base_words::message_of;
 use al_session_stream::{Device, Sink, emit, emit_number};
 
-/// The folder of a file, if it isn't the present one.
+/// The folder of a file; empty for the current folder.
 fn named_folder(folder: &[u8]) -> &[u8]
     ensures { result.now ≡ named_folder folder.now }
 {
@@ -22,7 +22,7 @@ fn named_folder(folder: &[u8]) -> &[u8]
     }
 }
 
-/// What is between a folder and the name of a file.
+/// The separator between a folder and the name of a file.
 fn separator(folder: &[u8]) -> &'static [u8]
     ensures { result.now ≡ separator folder.now }
 {
@@ -35,7 +35,11 @@ fn separator(folder: &[u8]) -> &'static [u8]
     }
 }
 
-/// Writes what is before the name of a file of the folder; nothing in the present one.
+/// Writes what comes before the name of a file in a folder: nothing for the current folder.
+///
+/// # Errors
+///
+/// As for [`emit`].
 pub(crate) fn emit_folder<K: Sink>(
     so_far: Result<(), Device>,
     writer: &mut K,
@@ -49,7 +53,7 @@ pub(crate) fn emit_folder<K: Sink>(
     emit(so_far, writer, separator(folder))
 }
 
-/// Writes FOLDER/FILE:LINE:COL: error: CODE TEXT.
+/// Writes `FOLDER/FILE:LINE:COL: error: CODE TEXT`.
 fn emit_diagnostic_line<K: Sink>(
     so_far: Result<(), Device>,
     writer: &mut K,
@@ -71,7 +75,7 @@ fn emit_diagnostic_line<K: Sink>(
     emit(so_far, writer, b"\n")
 }
 
-/// Writes the line of the text with a caret under the place, where there is a text.
+/// Writes the line of the source with a caret under the place, if there is a source.
 fn emit_source<K: Sink>(
     so_far: Result<(), Device>,
     writer: &mut K,
@@ -89,8 +93,8 @@ fn emit_source<K: Sink>(
     emit_excerpt(so_far, writer, place.col.saturating_sub(1) as usize, line)
 }
 
-/// Writes a diagnostic of a file of the folder, as FOLDER/FILE:LINE:COL: error: CODE TEXT; and where there is a text, its line with a
-/// caret under the place.
+/// Writes a diagnostic of a file in a folder, as `FOLDER/FILE:LINE:COL: error: CODE TEXT`; if there is a source, also its line with a caret under the
+/// place.
 fn emit_diagnostic<K: Sink>(
     so_far: Result<(), Device>,
     writer: &mut K,
@@ -106,7 +110,7 @@ fn emit_diagnostic<K: Sink>(
     emit_source(so_far, writer, diagnostic.place, text)
 }
 
-/// The folder of a file; the present one where none is told.
+/// The folder of a file; the current one if `folders` has none for it.
 pub(crate) fn folder_of<'a>(folders: &'a Files, file: &[u8]) -> &'a [u8]
     ensures { result.now ≡ folder_of folders.now file.now }
 {
@@ -116,14 +120,18 @@ pub(crate) fn folder_of<'a>(folders: &'a Files, file: &[u8]) -> &'a [u8]
     }
 }
 
-/// The text of a file, where it is to be shown.
+/// The source of a file, if it is shown.
 fn text_shown<'a>(is_plain: bool, texts: &'a Files, file: &[u8]) -> Option<&'a [u8]>
     ensures { option_map (λ text. text.now) result ≡ text_shown is_plain texts.now file.now }
 {
     if is_plain { None } else { texts.get(file) }
 }
 
-/// Writes a diagnostic of one of these files, which stand in these folders.
+/// Writes a diagnostic of one of these sources, whose files are in these folders.
+///
+/// # Errors
+///
+/// As for [`emit`].
 pub fn emit_told<K: Sink>(
     so_far: Result<(), Device>,
     writer: &mut K,
@@ -142,7 +150,7 @@ pub fn emit_told<K: Sink>(
     emit_diagnostic(so_far, writer, folder, diagnostic, text)
 }
 
-/// Writes each diagnostic.
+/// Writes all diagnostics.
 fn emit_each<K: Sink>(
     mut so_far: Result<(), Device>,
     writer: &mut K,
@@ -161,6 +169,7 @@ fn emit_each<K: Sink>(
     so_far
 }
 
+// The word for errors, and the end of the line.
 fn errors_word(count: usize) -> &'static [u8]
     ensures { result.now ≡ errors_word count }
 {
@@ -172,6 +181,10 @@ fn errors_word(count: usize) -> &'static [u8]
 }
 
 /// Writes how many errors there are.
+///
+/// # Errors
+///
+/// As for [`emit`].
 pub fn emit_count<K: Sink>(
     so_far: Result<(), Device>,
     writer: &mut K,
@@ -185,8 +198,12 @@ pub fn emit_count<K: Sink>(
     emit(so_far, writer, errors_word(count))
 }
 
-/// Writes diagnostics of these files, which stand in these folders: each as FOLDER/FILE:LINE:COL: error: CODE TEXT, and unless plain the
-/// line of its text with a caret under the place; and then how many they are.
+/// Writes the diagnostics of these sources, whose files are in these folders, and then their number. Each is `FOLDER/FILE:LINE:COL: error: CODE
+/// TEXT`, and unless `is_plain` the line of the source with a caret under the place.
+///
+/// # Errors
+///
+/// As for [`emit`].
 pub fn emit_diagnostics<K: Sink>(
     so_far: Result<(), Device>,
     writer: &mut K,

@@ -1,4 +1,4 @@
-// A line with a caret under a place of it.
+// A line with a caret under a place in it.
 ghost use Rattle.std.specs.Prelude.{◌≡◌, ◌∷◌, [], ◌-◌, ◌^◌, ◌<◌, ◌≤◌, ◌+◌, IsOk, length, drop, take, nat_lt};
 ghost use Rattle.std.specs.List.{flat_map};
 ghost use Rattle.al_session_stream.specs.Output.{Adds};
@@ -7,13 +7,13 @@ ghost use Rattle.al_folder.specs.Excerpts.{left_out, where_left, shown, blanks_f
 use crate::messages::emit_shown_bytes;
 use al_session_stream::{Device, Sink, emit};
 
-/// How many bytes of a line are shown at most.
+/// The largest number of bytes of a line that are shown.
 pub const WIDTH: usize = 120;
 
-/// How many bytes of a long line are shown before the place.
+/// The number of bytes of a long line that are shown before the place.
 pub const BEFORE: usize = 80;
 
-/// How many bytes are left out in front of what is shown of a line of so many bytes.
+/// The number of bytes at the beginning of a line of `len` bytes that aren't shown.
 fn left_out(len: usize, place: usize) -> usize
     ensures value { result ≡ left_out len place }
     ensures within { result ≤ len }
@@ -25,7 +25,7 @@ fn left_out(len: usize, place: usize) -> usize
     }
 }
 
-/// At most so many bytes from the front.
+/// The first bytes, at most `most` of them.
 fn front_of(most: usize, bytes: &[u8]) -> &[u8]
     ensures { result.now ≡ take most bytes.now }
 {
@@ -36,7 +36,7 @@ fn front_of(most: usize, bytes: &[u8]) -> &[u8]
     }
 }
 
-/// What is left after so many bytes.
+/// The line without its first bytes.
 fn after(front: usize, line: &[u8]) -> &[u8]
     requires { front ≤ length line.now }
     ensures { result.now ≡ drop front line.now }
@@ -44,14 +44,14 @@ fn after(front: usize, line: &[u8]) -> &[u8]
     &line[front..]
 }
 
-/// A mark where something is left out.
+/// The mark for bytes that aren't shown, if there are such bytes.
 fn where_left(is_left: bool, mark: &[u8]) -> &[u8]
     ensures { result.now ≡ where_left is_left mark.now }
 {
     if is_left { mark } else { &[] }
 }
 
-/// Writes what is shown of a line of which so many bytes are left out in front.
+/// Writes what is shown of a line whose first `front` bytes aren't.
 fn emit_shown<K: Sink>(
     so_far: Result<(), Device>,
     writer: &mut K,
@@ -69,7 +69,7 @@ fn emit_shown<K: Sink>(
     emit(so_far, writer, where_left(rest.len() > WIDTH, b"..."))
 }
 
-/// What is as wide as what is shown of a byte: a tab for a tab, so that what is below it stands below it, however wide tabs are.
+/// Blanks as wide as a byte is when it is shown. A tab gives a tab, so that what is below it is aligned, however wide tabs are.
 fn blanks_for(byte: u8) -> &'static [u8]
     ensures { result.now ≡ blanks_for byte }
 {
@@ -97,7 +97,7 @@ fn emit_blanks<K: Sink>(
     so_far
 }
 
-/// Writes the caret below the byte before which so many bytes of the line stand.
+/// Writes the caret below the byte at a place of the line.
 fn emit_caret<K: Sink>(
     so_far: Result<(), Device>,
     writer: &mut K,
@@ -117,7 +117,11 @@ fn emit_caret<K: Sink>(
     emit(so_far, writer, b"^")
 }
 
-/// Writes a line, at most [`WIDTH`] bytes of it, and below it a caret under the byte before which so many bytes of the line stand.
+/// Writes a line, at most [`WIDTH`] bytes of it, and below it a caret under the byte at the place.
+///
+/// # Errors
+///
+/// As for [`emit`].
 pub fn emit_excerpt<K: Sink>(
     so_far: Result<(), Device>,
     writer: &mut K,

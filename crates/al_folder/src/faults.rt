@@ -1,4 +1,4 @@
-// Why a sound library has no program.
+// Why a library without errors has no program.
 ghost use Rattle.std.specs.Prelude.{◌≡◌, ◌-◌, ◌^◌, ◌<◌, IsOk, map};
 ghost use Rattle.std.specs.List.{flat_map};
 ghost use Rattle.al_bind.specs.Binding.{line_model};
@@ -10,7 +10,11 @@ use al_base_graph::Reason;
 use al_bind::Line;
 use al_session_stream::{Device, Sink, emit};
 
-/// Writes that no procedure of the library without parameters has the name.
+/// Writes that the library has no procedure of this name without parameters.
+///
+/// # Errors
+///
+/// As for [`emit`].
 pub fn emit_no_main<K: Sink>(
     so_far: Result<(), Device>,
     writer: &mut K,
@@ -30,6 +34,10 @@ pub fn emit_no_main<K: Sink>(
 }
 
 /// Writes that a body is missing.
+///
+/// # Errors
+///
+/// As for [`emit`].
 pub fn emit_no_body<K: Sink>(
     so_far: Result<(), Device>,
     writer: &mut K,
@@ -45,6 +53,10 @@ pub fn emit_no_body<K: Sink>(
 }
 
 /// Writes that a subunit is missing.
+///
+/// # Errors
+///
+/// As for [`emit`].
 pub fn emit_no_subunit<K: Sink>(
     so_far: Result<(), Device>,
     writer: &mut K,
@@ -60,6 +72,10 @@ pub fn emit_no_subunit<K: Sink>(
 }
 
 /// Writes that the image would pass a limit.
+///
+/// # Errors
+///
+/// As for [`emit`].
 pub fn emit_too_large<K: Sink>(so_far: Result<(), Device>, writer: &mut K) -> Result<(), Device>
     requires { IsOk so_far → K.faults writer.old < 2 ^ 64 - 1 }
     ensures faults { IsOk result → IsOk so_far × (K.faults writer.new ≡ K.faults writer.old) }
@@ -68,6 +84,7 @@ pub fn emit_too_large<K: Sink>(so_far: Result<(), Device>, writer: &mut K) -> Re
     emit(so_far, writer, b"error: the image is too large\n")
 }
 
+// Why an item comes after the one that was just named.
 fn reason_words(reason: Reason) -> &'static [u8]
     ensures { result.now ≡ reason_words reason }
 {
@@ -108,6 +125,10 @@ fn emit_steps<K: Sink>(
 }
 
 /// Writes that there is no order of elaboration, and the cycle that shows it.
+///
+/// # Errors
+///
+/// As for [`emit`].
 pub fn emit_cycle<K: Sink>(
     so_far: Result<(), Device>,
     writer: &mut K,

@@ -1,5 +1,12 @@
-//! What a program that reads folders of Ada sources takes its words for, and how it tells what came of them: names of sources and of
-//! the main unit, numbers, lines, the caret under a place, and the texts of its replies.
+//! The words of a program that builds folders of Ada sources: how it reads names, numbers and commands, and what it prints.
+//!
+//! - `names`, `numbers` and `words` read: names of sources and of the main unit, numbers, and the lines of the standard input in a watch.
+//! - `lines` and `excerpt` show a source line with a caret under a place. `diagnostics` prints errors with such lines, `faults` why a library without
+//!   errors has no program.
+//! - `parts` prints units, `progress` what a build did, and `runs` how a run ended. `status` is the exit status.
+//! - `messages` prints bytes so that no control character reaches a terminal.
+//!
+//! Each function `emit_..` writes one piece of an output, as [`al_session_stream::emit`] does.
 #![tactic(auto)]
 
 mod diagnostics;

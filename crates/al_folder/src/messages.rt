@@ -1,4 +1,4 @@
-// Lines that are told, in which controls are shown and never sent to a terminal.
+// Lines in which control characters are shown, so that none reaches a terminal.
 ghost use Rattle.std.specs.Prelude.{◌≡◌, ◌-◌, ◌^◌, ◌<◌, IsOk, map};
 ghost use Rattle.std.specs.List.{flat_map};
 ghost use Rattle.al_session_stream.specs.Output.{Adds};
@@ -6,7 +6,7 @@ ghost use Rattle.al_folder.specs.Messages.{shown_byte, shown_bytes, message_text
 
 use al_session_stream::{Device, Sink, emit};
 
-/// Writes a byte, a control as a circumflex and a letter.
+/// Writes a byte; a control character as a circumflex and a letter, except a tab.
 fn emit_byte<K: Sink>(so_far: Result<(), Device>, writer: &mut K, byte: u8) -> Result<(), Device>
     requires { IsOk so_far → K.faults writer.old < 2 ^ 64 - 1 }
     ensures faults { IsOk result → IsOk so_far × (K.faults writer.new ≡ K.faults writer.old) }
@@ -23,7 +23,11 @@ fn emit_byte<K: Sink>(so_far: Result<(), Device>, writer: &mut K, byte: u8) -> R
     }
 }
 
-/// Writes bytes, each control as a circumflex and a letter.
+/// Writes bytes; each control character as a circumflex and a letter, except tabs.
+///
+/// # Errors
+///
+/// As for [`emit`].
 pub fn emit_shown_bytes<K: Sink>(
     mut so_far: Result<(), Device>,
     writer: &mut K,
@@ -39,7 +43,11 @@ pub fn emit_shown_bytes<K: Sink>(
     so_far
 }
 
-/// Writes the pieces as one line, in which controls are shown.
+/// Writes the pieces as one line, in which control characters are shown.
+///
+/// # Errors
+///
+/// As for [`emit`].
 pub fn emit_message<K: Sink>(
     so_far: Result<(), Device>,
     writer: &mut K,
@@ -53,7 +61,7 @@ pub fn emit_message<K: Sink>(
     emit(so_far, writer, b"\n")
 }
 
-/// Writes the pieces, in which controls are shown.
+/// Writes the pieces, in which control characters are shown.
 fn emit_pieces<K: Sink>(
     mut so_far: Result<(), Device>,
     writer: &mut K,

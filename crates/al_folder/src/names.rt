@@ -1,30 +1,32 @@
-// Names of sources, and of the main unit.
+// Names of sources and of the main unit.
 ghost use Rattle.std.specs.Prelude.{◌≡◌, map, IfOk, option_map};
 ghost use Rattle.al_folder.specs.Names.{ending, is_body_file, has_source_ending, dot_for_hyphen, told_name, unit_of};
 
 use al_base::{Name, NoMemory, folded, is_unit_name};
 use std::alloc::Global;
 
-/// The last four bytes; all where there are fewer.
+/// The last four bytes of a name; all if there are fewer.
 fn ending(name: &[u8]) -> &[u8]
     ensures { result.now ≡ ending name.now }
 {
     &name[name.len().saturating_sub(4)..]
 }
 
+// Whether a file's name is that of a body.
 fn is_body_file(name: &[u8]) -> bool
     ensures { result ≡ is_body_file name.now }
 {
     ending(name) == b".adb".as_slice()
 }
 
-/// Whether a file's name ends as that of a source: in `.ads` or `.adb`.
+/// Whether a file's name ends as that of a source does: in `.ads` or `.adb`.
 pub fn has_source_ending(name: &[u8]) -> bool
     ensures { result ≡ has_source_ending name.now }
 {
     ending(name) == b".ads".as_slice() || is_body_file(name)
 }
 
+// The byte in a unit's name for one in its file's name.
 fn dot_for_hyphen(byte: u8) -> u8
     ensures { result ≡ dot_for_hyphen byte }
 {
@@ -35,7 +37,7 @@ fn dot_for_hyphen(byte: u8) -> u8
     }
 }
 
-/// The name that the word tells: that of the unit whose body the file of the name holds, or the word itself.
+/// The name that a word gives: if it is the name of a body's file, that of its unit, and else the word itself.
 fn told_name(alloc: Global, word: &[u8]) -> Result<Vec<u8>, NoMemory>
     ensures { IfOk result (λ name. name.items ≡ told_name word.now) }
 {
@@ -47,11 +49,11 @@ fn told_name(alloc: Global, word: &[u8]) -> Result<Vec<u8>, NoMemory>
     Ok(name)
 }
 
-/// The unit that the word names, `hello` or `hello.adb`, in lower case; none where it names none.
+/// The unit that a word names, as `hello` or `hello.adb`, in lower case; `None` if it names none.
 ///
 /// # Errors
 ///
-/// `NoMemory` where memory was wanted and not given.
+/// `NoMemory` if the allocator refuses memory.
 pub fn unit_of(alloc: Global, word: &[u8]) -> Result<Option<Name>, NoMemory>
     ensures { IfOk result (λ unit. unit ≡ unit_of word.now) }
 {

@@ -2,7 +2,7 @@
 ghost use Rattle.std.specs.Prelude.{◌≡◌, ◌≤◌, ◌<◌, IfSome};
 ghost use Rattle.al_folder.specs.Numbers.{number_of};
 
-/// The number that the word writes, where it is from 1 to the most. Digits alone: `parse` would take a sign.
+/// The number that the word writes, if it is from 1 to `most`. It has only digits; `parse` would also take a sign.
 pub fn number_of(most: u32, word: &str) -> Option<u32>
     ensures value { result ≡ number_of most word.now }
     ensures range { IfSome result (λ number. (1 ≤ number) × (number ≤ most)) }

@@ -1,4 +1,4 @@
-// What is told of units.
+// Units, as they are printed.
 ghost use Rattle.std.specs.Prelude.{◌≡◌, ◌-◌, ◌^◌, ◌<◌, IsOk, map};
 ghost use Rattle.al_base.specs.Batch.{key_of};
 ghost use Rattle.al_session_stream.specs.Output.{Adds};
@@ -7,6 +7,7 @@ ghost use Rattle.al_folder.specs.Parts.{part_word, part_words, part_line, part_l
 use al_base::{UnitKey, UnitKind};
 use al_session_stream::{Device, Sink, emit};
 
+// The words before the name of a unit of this kind.
 fn part_word(kind: UnitKind) -> &'static [u8]
     ensures { result.now ≡ part_word kind }
 {
@@ -17,7 +18,11 @@ fn part_word(kind: UnitKind) -> &'static [u8]
     }
 }
 
-/// Writes which part of which unit it is.
+/// Writes a unit's kind and name.
+///
+/// # Errors
+///
+/// As for [`emit`].
 pub(crate) fn emit_part<K: Sink>(
     so_far: Result<(), Device>,
     writer: &mut K,
@@ -31,7 +36,7 @@ pub(crate) fn emit_part<K: Sink>(
     emit(so_far, writer, key.name.as_slice())
 }
 
-/// .. as a line.
+/// Writes a line with a unit's kind and name.
 fn emit_part_line<K: Sink>(
     so_far: Result<(), Device>,
     writer: &mut K,
@@ -45,7 +50,11 @@ fn emit_part_line<K: Sink>(
     emit(so_far, writer, b"\n")
 }
 
-/// Writes a line for each part.
+/// Writes a line for each unit, with its kind and name.
+///
+/// # Errors
+///
+/// As for [`emit`].
 pub fn emit_parts<K: Sink>(
     mut so_far: Result<(), Device>,
     writer: &mut K,

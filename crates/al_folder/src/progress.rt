@@ -1,4 +1,4 @@
-// What is told of what a build did.
+// What a build did, as it is printed.
 ghost use Rattle.std.specs.Prelude.{◌≡◌, ◌-◌, ◌^◌, ◌<◌, IsOk};
 ghost use Rattle.al_session_stream.specs.Output.{Adds};
 ghost use Rattle.al_folder.specs.Progress.{change_of, change_words, checked_words, progress_line};
@@ -10,16 +10,16 @@ use al_session_stream::{Device, Sink, emit, emit_number};
 pub enum ImageChange {
     /// There is none.
     Absent,
-    /// It was made anew.
+    /// It was built anew.
     Made,
     /// The code of some units was written into it.
     Patched,
-    /// It stayed.
+    /// It is unchanged.
     Kept,
 }
 
-/// What a build did to the image: whether there was one before, whether there is one now, and into how many of so many units' code it
-/// wrote.
+/// What a build did to the image: `had` says whether there was one before, `has` whether there is one now, and `written` into the code of how many of
+/// the `units` it wrote.
 pub fn image_change(had: bool, has: bool, written: usize, units: usize) -> ImageChange
     ensures { result ≡ change_of had has written units }
 {
@@ -38,6 +38,7 @@ pub fn image_change(had: bool, has: bool, written: usize, units: usize) -> Image
     }
 }
 
+// The words for what was done to the image.
 fn change_words(change: ImageChange) -> &'static [u8]
     ensures { result.now ≡ change_words change }
 {
@@ -49,7 +50,7 @@ fn change_words(change: ImageChange) -> &'static [u8]
     }
 }
 
-/// Writes how many of so many units were checked.
+/// Writes how many of the units were checked.
 fn emit_checked<K: Sink>(
     so_far: Result<(), Device>,
     writer: &mut K,
@@ -67,7 +68,11 @@ fn emit_checked<K: Sink>(
     emit(so_far, writer, b" units, ")
 }
 
-/// Writes how many of so many units were checked, what was done to the image, and how many milliseconds that took.
+/// Writes how many of the units were checked, what was done to the image, and how many milliseconds it took.
+///
+/// # Errors
+///
+/// As for [`emit`].
 pub fn emit_progress<K: Sink>(
     so_far: Result<(), Device>,
     writer: &mut K,

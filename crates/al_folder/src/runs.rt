@@ -1,4 +1,4 @@
-// What is told of a run's end.
+// The end of a run, as it is printed.
 ghost use Rattle.std.specs.Prelude.{◌≡◌, ◌-◌, ◌^◌, ◌<◌, IsOk};
 ghost use Rattle.al_base.specs.Batch.{key_of};
 ghost use Rattle.al_session_stream.specs.Output.{Adds};
@@ -14,13 +14,13 @@ use al_session_stream::{Device, Sink, emit, emit_number};
 pub enum RunEnd {
     /// All tasks have ended.
     Finished,
-    /// No task is ready or delayed.
+    /// No task is ready or delayed, and some haven't ended.
     Idle,
-    /// The steps that were allowed are spent.
+    /// The number of steps that was allowed is used up.
     Spent,
     /// The image is damaged.
     Stuck,
-    /// An exception was raised in the code of this unit, on this line of its text where that is known.
+    /// An exception was raised in the code of this unit, on this line of its source if that is known.
     Raised {
         exception: Exception,
         unit: UnitKey,
@@ -44,6 +44,7 @@ impl Drop for RunEnd {
     }
 }
 
+// The name of an exception.
 fn exception_word(exception: Exception) -> &'static [u8]
     ensures { result.now ≡ exception_word exception }
 {
@@ -54,7 +55,7 @@ fn exception_word(exception: Exception) -> &'static [u8]
     }
 }
 
-/// Writes the name of a file behind its folder.
+/// Writes the name of a file after its folder.
 fn emit_named<K: Sink>(
     so_far: Result<(), Device>,
     writer: &mut K,
@@ -69,7 +70,7 @@ fn emit_named<K: Sink>(
     emit(so_far, writer, name)
 }
 
-/// Writes the name of the file that holds the unit, behind its folder.
+/// Writes the name of the file that holds the unit, after its folder.
 fn emit_file<K: Sink>(
     so_far: Result<(), Device>,
     writer: &mut K,
@@ -90,7 +91,7 @@ fn emit_file<K: Sink>(
     }
 }
 
-/// Writes the line of a file, where it is known.
+/// Writes the number of a line, if it is known.
 fn emit_line<K: Sink>(
     so_far: Result<(), Device>,
     writer: &mut K,
@@ -108,7 +109,7 @@ fn emit_line<K: Sink>(
     emit(so_far, writer, b"\n")
 }
 
-/// Writes that an exception ended a run, and where it was raised.
+/// Writes that an exception ended a run, and the file and line in which it was raised.
 fn emit_raised<K: Sink>(
     so_far: Result<(), Device>,
     writer: &mut K,
@@ -128,7 +129,11 @@ fn emit_raised<K: Sink>(
     emit_line(so_far, writer, line)
 }
 
-/// Writes how a run ended; nothing where all is done. The files of units stand in these folders.
+/// Writes how a run ended; nothing if all tasks have ended. The files of units are in these folders.
+///
+/// # Errors
+///
+/// As for [`emit`].
 pub fn emit_end<K: Sink>(
     so_far: Result<(), Device>,
     writer: &mut K,

@@ -9,17 +9,17 @@ use std::process::ExitCode;
 /// How the program ended.
 #[derive(Clone, Copy)]
 pub enum Ending {
-    /// All that was asked for was done.
+    /// All that was asked for is done.
     Done,
-    /// There is no program: files can't be read, something is wrong with them, or an image is damaged.
+    /// There is no program: files can't be read, a source has errors, or an image is damaged.
     NotBuilt,
-    /// The words of the command line are of another form.
+    /// The command line is wrong.
     Usage,
     /// An exception ended the run.
     ByException,
 }
 
-/// How the program ends that ran an image.
+/// How the program ends after it ran an image.
 pub fn ending_of(end: &RunEnd) -> Ending
     ensures { result ≡ ending_of end.now }
 {
@@ -34,7 +34,7 @@ pub fn ending_of(end: &RunEnd) -> Ending
     }
 }
 
-/// The exit status.
+/// The exit status: 0 if all is done, 1 without a program, 2 for a wrong command line, 3 after an exception.
 pub fn exit_code(ending: Ending) -> ExitCode
     ensures { exit_status result ≡ status_of ending }
 {

@@ -1,25 +1,25 @@
-// What a line of the standard input asks for.
+// The commands of a watch.
 ghost use Rattle.std.specs.Prelude.{◌≡◌};
 ghost use Rattle.al_folder.specs.Words.{watch_word};
 
-/// What a line of the standard input asks for.
+/// What a line of the standard input asks for during a watch.
 #[derive(Clone, Copy)]
 pub enum WatchWord {
     /// A build.
     Build,
-    /// A build, and its run.
+    /// A build and a run.
     Run,
-    /// A build, and its order of elaboration.
+    /// A build and its order of elaboration.
     Order,
     /// The units that are obsolete since the last build.
     Obsolete,
-    /// The end.
+    /// The end of the watch.
     Quit,
-    /// No word.
+    /// The line isn't a command.
     Unknown,
 }
 
-/// What the line asks for; an empty one for a build.
+/// What the line asks for. An empty one asks for a build.
 pub fn watch_word(line: &[u8]) -> WatchWord
     ensures { result ≡ watch_word line.now }
 {

@@ -1,4 +1,4 @@
--- What holds of each task and each one after it, by their places.
+-- What holds of each task and every later one, by their places.
 use Rattle.std.proofs.Common.{◌≡◌, ◌≢◌, ℕ, zero, suc, ◌<◌, ◌≤◌, List, [], ◌∷◌, Some, slice_get, sym, ap, subst, ◌∙◌, inl, inr, arith}
 use Rattle.std.proofs.lemmas.Bool.{cases_lt}
 use Rattle.al_tasks.specs.Task.{Task}

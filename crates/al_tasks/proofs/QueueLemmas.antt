@@ -1,11 +1,11 @@
--- Where tasks are put.
+-- The places at which tasks are put.
 use Rattle.std.proofs.Common.{◌≡◌, ℕ, suc, List, [], ◌∷◌, Bool, true, false, not, cond, nat_le, nat_lt, refl, ap}
 use Rattle.std.specs.Prelude.{insert}
 use Rattle.al_tasks.specs.Task.{Task}
 use Rattle.al_tasks.specs.World.{at_head, at_tail, by_number}
 use Rattle.al_tasks.specs.Queues.{first_place}
 
--- a task at a place of a list that is one longer
+-- inserting into the rest of a list is inserting one place later
 insert_later : (u : Task) (us : List Task) (place : ℕ) (t : Task) → u ∷ insert us place t ≡ insert (u ∷ us) (suc place) t
 insert_later u us place t = refl
 

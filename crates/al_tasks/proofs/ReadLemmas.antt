@@ -1,4 +1,4 @@
--- What is read of memory by an event.
+-- What an event reads of memory.
 use Rattle.std.proofs.Common.{◌≡◌, ℕ, ◌+◌, ◌-◌, ◌*◌, ◌<◌, ◌≤◌, ℤ, List, [], ◌∷◌, ◌++◌, Bool, true, false, not, cond, ◌&&◌, ◌||◌, ◌==◌, Option, Some, None, Result, Ok, Err, length, get_or, slice_get, nat_le, nat_lt, refl, sym, ◌∙◌, ap, subst, arith, inl}
 use Rattle.std.proofs.lemmas.Bool.Decides.{nat_tests}
 use Rattle.std.specs.Prelude.{pos, int_le}
@@ -39,7 +39,7 @@ world_if : (q : ℕ) (b : Bool) (x y x' y' : World) → (b ≡ true → AreAlike
 world_if q true x y x' y' f g = f refl
 world_if q false x y x' y' f g = g refl
 
--- a world whose memory alone differs
+-- a world that differs only in its memory
 plain : (q : ℕ) (x : World) (ys : List ℤ) → Alike q x.memory ys → AreAlikeBut q x (record x { memory = ys })
 plain q x ys a = record { rest = refl; words = a }
 
@@ -62,7 +62,7 @@ module _ (p : Program) (image : IsLaidOut p) (q : ℕ) (low : q < p.words) (w : 
     low_own : q < t.registers.first
     low_own = let d = both.0.data_below in omega arith
 
-    -- a word of the task's own
+    -- a word among the task's stack words
     own_word : (k : ℕ) → t.registers.first ≤ k → get_or ys k (pos 0) ≡ get_or w.memory k (pos 0)
     own_word k h = own q m ys inside_own low_own alike k h
 

@@ -1,4 +1,4 @@
--- What every event keeps of the tasks.
+-- Every event keeps what is known of the tasks.
 use Rattle.std.proofs.Common.{◌≡◌, ℕ, ◌-◌, ◌≤◌, ℤ, List, [], ◌∷◌, Bool, true, false, not, cond, ◌&&◌, ◌||◌, ◌==◌, Option, Some, None, Result, Ok, Err, slice_get, nat_le, nat_lt, refl, sym, subst, arith}
 use Rattle.std.proofs.lemmas.Bool.Decides.{nat_tests}
 use Rattle.std.specs.Prelude.{int_le}
@@ -32,7 +32,7 @@ use Rattle.al_tasks.proofs.WorldQueueLemmas.{Sound, Away, HeldOk, sound-at_tail,
 abbrev pub Keeps : Program → World → Type 0
 Keeps p w = Sound p.objects w.ready w.paused
 
--- by a test
+-- a test that decides between two worlds keeps it if both do
 pub keeps_if : (p : Program) (b : Bool) (v w : World) → (b ≡ true → Keeps p v) → (b ≡ false → Keeps p w) → Keeps p (cond b v w)
 keeps_if p true v w f g = f refl
 keeps_if p false v w f g = g refl
@@ -51,7 +51,7 @@ free_or (h ∷ hs) true e = absurd (cc)
 free_or (h ∷ hs) false e = absurd (cc)
 
 module _ (p : Program) (t : Task) (ts : List Task) (w : World) (s : Sound p.objects (t ∷ ts) w.paused) (here : w.ready ≡ t ∷ ts) where
-  -- the world as it is
+  -- the world is unchanged
   pub same : Keeps p w
   same = subst (λ (l : List Task). Sound p.objects l w.paused) (sym here) s
 
@@ -73,7 +73,7 @@ module _ (p : Program) (t : Task) (ts : List Task) (w : World) (s : Sound p.obje
   keeps-turns next (Err trap.Stuck) = same
   keeps-turns next (Err (trap.Raised e)) = same
 
-  -- the running task at the next instruction
+  -- the running task with another place
   abbrev pub at : ℕ → Task
   at next = record t { place = next }
 

@@ -37,7 +37,7 @@ use Rattle.al_machine.proofs.MemoryLemmas.{length-copied, length-zeroed, zeroed_
 use Rattle.al_machine.proofs.MoveLemmas.{Moves, Good, GoodFlow, IsSafe, flow-exec, good-pushed}
 use Rattle.al_tasks.proofs.WorldQueueLemmas.{each-at_head, each-at_tail, each-by_number, each-passing, each-failing, each-all_at_tail}
 
--- a word of an object that the task isn't inside lies apart from all that is open to the task
+-- a word of an object that the task isn't inside is apart from all that is open to the task
 
 apart_safe : (o : Region) (k from words : ℕ) → o.address ≤ k → k < o.address + o.words → lies_apart o from words ≡ true → (k < from) ⊎ (from + words ≤ k)
 apart_safe o k from words low high e =
@@ -78,12 +78,12 @@ open_safe (x ∷ xs) entered start (suc number) k o is low high out from words e
     let rest = both_right (lies_apart x from words || is_entered entered start) (is_open xs entered (start + 1) from words) e in
     open_safe xs entered (start + 1) number k o is low high out' from words rest
 
--- the running task reaches none of the objects that have the word
+-- the running task is inside none of the objects that have the word
 abbrev pub safe_at : Program → ℕ → List Task → Type 0
 safe_at p k [] = ⊤
 safe_at p k (t ∷ ts) = IsSafe p.objects t.held k
 
--- the next world is so too, and where S holds the word at k is as it was
+-- the next world fits too, and if S holds the word at k is unchanged
 pub record Kept (S : Type 0) (p : Program) (k : ℕ) (w w' : World) : Type 0 where
   pub fits : Fits p w'
   pub kept : S → get_or w'.memory k (pos 0) ≡ get_or w.memory k (pos 0)
@@ -93,7 +93,7 @@ module _ (S : Type 0) (p : Program) (image : IsLaidOut p) (k : ℕ) (low : S →
   kept_if w true v u f g = f refl
   kept_if w false v u f g = g refl
 
-  -- memory as it is, with other lists of tasks
+  -- memory is unchanged, and the lists of tasks are others
   kept_tasks : (w w' : World) → Fits p w → w'.memory ≡ w.memory → w'.created ≡ w.created → Each (Stands p) w'.ready → Each (Stands p) w'.paused → Kept S p k w w'
   kept_tasks w w' f e c ready paused = record {
     fits = record { memory = ap (λ (l : List ℤ). length l) e ∙ f.memory; ready = ready; paused = paused; created = let h = f.created in omega arith };
@@ -112,7 +112,7 @@ module _ (S : Type 0) (p : Program) (image : IsLaidOut p) (k : ℕ) (low : S →
     same : Kept S p k w w
     same = record { fits = f; kept = λ _. refl }
 
-    -- a world with another status
+    -- a world that has ended
     with_end : (end : Ending) → Kept S p k w (record w { ended = Some end })
     with_end end = kept_tasks w (record w { ended = Some end }) f refl refl f.ready f.paused
 
@@ -352,7 +352,8 @@ pub safe_here : (p : Program) (number place : ℕ) → IsWordOf p number place �
 safe_here p number place is [] out = tt
 safe_here p number place is (t ∷ ts) out = open_safe p.objects t.held 0 number place is.0 is.1 is.2 is.3 (let zero_on : 0 + number ≡ number = omega arith in rw zero_on out)
 
--- no event but those of the task inside an object, and its seeds before Go, changes the object's words
+-- no event changes the words of an object, except an instruction of the task inside it, and one that gives them their first
+-- values
 pub words_are_kept : (p : Program) → IsLaidOut p → (events : List Event) → WordsAreKept p (after p (load p) events)
 words_are_kept p image events e number place is out seed =
     let w = after p (load p) events in

@@ -9,7 +9,8 @@ use Rattle.al_tasks.specs.Task.{Task}
 use Rattle.al_tasks.specs.World.{at_head, at_tail, by_number, passing, failing, all_at_tail, inside, outside}
 use Rattle.al_tasks.specs.Exclusion.{Each, EachAfter, Apart, Above, Descends}
 
--- the priority now is the ceiling of the object entered last, and the one before was no higher; at the bottom it is the task's own
+-- the active priority is the ceiling of the object entered last, and the one before was no higher; outside all objects it is the
+-- base priority
 abbrev pub HeldOk : List Region → ℕ → ℕ → List Entered → Type 0
 HeldOk cs base active [] = active ≡ base
 HeldOk cs base active (h ∷ hs) = ((o : Region) × (slice_get cs h.object ≡ Some o) × (o.ceiling ≡ active)) × (h.before ≤ active) × HeldOk cs base h.before hs
@@ -27,7 +28,7 @@ pub record Sound (cs : List Region) (ready paused : List Task) : Type 0 where
   pub above : EachAfter Above ready
   pub away : Each Away paused
 
--- each
+-- What holds of each task.
 
 pub each-weaker : (P Q : Task → Type 0) → ((t : Task) → P t → Q t) → (ts : List Task) → Each P ts → Each Q ts
 each-weaker P Q f [] h = tt
@@ -54,7 +55,7 @@ each-at_tail P t (u ∷ us) p h = at (nat_le t.active u.active) (each-at_tail P 
     at true rest = (h.0, rest)
     at false rest = (p, h)
 
--- the order of levels
+-- The order of levels.
 
 pub levels-at_head : (t : Task) (ts : List Task) → EachAfter Descends ts → EachAfter Descends (at_head t ts)
 levels-at_head t [] e = (tt, tt)
@@ -72,7 +73,7 @@ levels-at_tail t (u ∷ us) e =
       | inr w ↦ let b : nat_le t.active u.active ≡ false = w.0 in rw b ((omega arith, each-weaker (Descends u) (Descends t) (λ x h. omega arith) us e.0), e)
     ]
 
--- who is ahead of a task inside something
+-- Who is ahead of a task that is inside an object.
 
 pub above-at_head : (t : Task) (ts : List Task) → Each (Above t) ts → Each (λ u. t.active < u.active → Above u t) ts → EachAfter Above ts → EachAfter Above (at_head t ts)
 above-at_head t [] after ahead e = (tt, tt)
@@ -118,13 +119,13 @@ pub each-all_at_tail : (P : Task → Type 0) (ts ready : List Task) → Each P t
 each-all_at_tail P [] ready h k = k
 each-all_at_tail P (t ∷ ts) ready h k = each-all_at_tail P ts (at_tail t ready) h.1 (each-at_tail P t ready h.0 k)
 
--- what a task's priority says
+-- What is known of a task's active priority.
 
 pub base_le : (cs : List Region) (base active : ℕ) (held : List Entered) → HeldOk cs base active held → base ≤ active
 base_le cs base active [] h = omega arith
 base_le cs base active (x ∷ xs) h = let below = base_le cs base x.before xs h.2 in omega arith
 
--- an object that a task is inside has a ceiling between the task's own priority and its priority now
+-- the ceiling of an object that a task is inside is between the task's base and its active priority
 pub held_ceiling : (cs : List Region) (base active : ℕ) (held : List Entered) (o : ℕ) → HeldOk cs base active held → is_entered held o ≡ true → (c : Region) × (slice_get cs o ≡ Some c) × (base ≤ c.ceiling) × (c.ceiling ≤ active)
 held_ceiling cs base active [] o h m = absurd (cc)
 held_ceiling cs base active (x ∷ xs) o h m =
@@ -160,7 +161,7 @@ all_apart cs (t ∷ ts) ok a = (each_apart cs t ts ok.0 ok.1 a.0, all_apart cs t
 pub away_ok : (cs : List Region) (t : Task) → Away t → TaskOk cs t
 away_ok cs t a = subst (λ (l : List Entered). HeldOk cs t.base t.active l) (sym a.0) a.1
 
--- who becomes ready is inside nothing
+-- a task that becomes ready is inside nothing
 pub sound-at_tail : (cs : List Region) (t : Task) (ready paused : List Task) → Away t → Sound cs ready paused → Sound cs (at_tail t ready) paused
 sound-at_tail cs t ready paused a s = record {
   tasks = each-at_tail (TaskOk cs) t ready (away_ok cs t a) s.tasks;
@@ -179,7 +180,7 @@ sound-released cs test ready paused s =
     let r = sound-all_at_tail cs (passing test paused) ready paused (each-passing Away test paused s.away) s in
     record { tasks = r.tasks; levels = r.levels; above = r.above; away = each-failing Away test paused s.away }
 
--- the running task is left out
+-- without the running task
 pub sound-rest : (cs : List Region) (t : Task) (ts paused : List Task) → Sound cs (t ∷ ts) paused → Sound cs ts paused
 sound-rest cs t ts paused s = record { tasks = s.tasks.1; levels = s.levels.1; above = s.above.1; away = s.away }
 
@@ -192,7 +193,7 @@ sound-paused cs t ready paused a s = record {
   away = each-by_number Away t paused a s.away;
 }
 
--- the running task, if it is inside nothing
+-- the running task, if it is inside nothing, may pause
 pub ok_away : (cs : List Region) (t : Task) → t.held ≡ [] → TaskOk cs t → Away t
 ok_away cs t is ok = (is, subst (λ (l : List Entered). HeldOk cs t.base t.active l) is ok)
 
@@ -214,7 +215,7 @@ ahead-leave cs u base p (x ∷ xs) is ok above le lt =
     let low : u.active < base = above (λ e. let f : (x ∷ xs) ≡ [] = sym is ∙ e in absurd (cc)) in
     absurd (omega arith)
 
--- and leaves it
+-- the running task leaves the object that it entered last
 pub sound-outside : (cs : List Region) (t : Task) (h : Entered) (hs : List Entered) (ts paused : List Task) → t.held ≡ h ∷ hs → Sound cs (t ∷ ts) paused → Sound cs (at_head (outside t h.before hs) ts) paused
 sound-outside cs t h hs ts paused is s =
     let ok : HeldOk cs t.base t.active (h ∷ hs) = subst (λ (l : List Entered). HeldOk cs t.base t.active l) is s.tasks.0 in

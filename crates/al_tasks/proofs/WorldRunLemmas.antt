@@ -1,4 +1,4 @@
--- A run is one of the lists of events, and images are laid out.
+-- A run is one of the lists of events, and the programs of images are laid out.
 use Rattle.std.proofs.Common.{◌≡◌, ℕ, zero, suc, ◌+◌, ◌≤◌, List, [], ◌∷◌, length, Bool, true, false, cond, Option, Some, None, slice_get, get_or, refl, arith, subst}
 use Rattle.std.specs.List.{All}
 use Rattle.std.specs.Prelude.{unwrap_or}
@@ -34,7 +34,7 @@ regions_within words rs all number o is =
     let same : get_or rs number o ≡ o = get_or_from_slice_get rs number o o is in
     subst (λ (x : Region). x.address + x.words ≤ words) same here.0
 
--- an image's lines rise
+-- the lines of an image's program rise
 lines_fit : (end : ℕ) (lines : Option (List LineEntry)) → end ≤ 16777216 → LinesFit end lines → rise 0 0x1_0000_0000 (unwrap_or lines []) ≡ true
 lines_fit end None le h = refl
 lines_fit end (Some es) le h = rise_within es 0 end 0x1_0000_0000 (omega arith) h.rise_in
@@ -42,7 +42,7 @@ lines_fit end (Some es) le h = rise_within es 0 end 0x1_0000_0000 (omega arith) 
 pub lines_rise : (image : images.Image) → images.IsImage image → rise 0 0x1_0000_0000 (unwrap_or image.lines []) ≡ true
 lines_rise image h = lines_fit (length (code_bytes image.code)) image.lines h.code_size h.lines
 
--- an image's program is laid out
+-- the program of an image is laid out
 pub laid_out : (image : images.Image) → images.IsImage image → IsLaidOut (program_of image)
 unfolding program_of
 laid_out image h = record {

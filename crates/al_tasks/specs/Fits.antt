@@ -1,10 +1,10 @@
--- Where tasks stand in memory.
+-- The places of tasks in memory.
 use Rattle.std.specs.Prelude.{◌≡◌, ◌+◌, ◌<◌, ◌≤◌, length}
 use Rattle.al_machine.specs.declared.stack.Registers.{Registers}
 use Rattle.al_tasks.specs.Task.{Task, Program, World}
 use Rattle.al_tasks.specs.Exclusion.{Each, size}
 
--- a task stands within its own stack words, above the data words
+-- the words of a task's frames are among its own stack words, above the data words
 pub record InPlace (p : Program) (r : Registers) : Type 0 where
   pub data_below : p.words ≤ r.first
   pub own : r.first + 16384 ≤ size p
@@ -16,7 +16,7 @@ pub record InPlace (p : Program) (r : Registers) : Type 0 where
 abbrev pub Stands : Program → Task → Type 0
 Stands p t = InPlace p t.registers
 
--- memory is whole, each task stands in its place, and there are no more tasks than the image has
+-- memory has its size, each task is at its place in it, and there are no more tasks than the image has
 pub record Fits (p : Program) (w : World) : Type 0 where
   pub memory : length w.memory ≡ size p
   pub ready : Each (Stands p) w.ready

@@ -1,4 +1,4 @@
--- What tasks are doing, as whoever looks at a running program sees it (ARM D.2.1, 9.5.1).
+-- What tasks are doing, as a program sees it that looks at a running program (ARM D.2.1, 9.5.1).
 use Rattle.std.specs.Prelude.{ℕ, ◌==◌, nat_lt, List, [], ◌∷◌, Option, Some, None, slice_get, if◌then◌else◌}
 use Rattle.al_link_image.specs.declared.parts.Region.{Region}
 use Rattle.al_machine.specs.Code.{fetch}
@@ -17,7 +17,7 @@ use Rattle.al_tasks.specs.declared.looking.ErrorCause.{ErrorCause}
 use Rattle.al_tasks.specs.declared.looking.ErrorCause.TheVariants.{AboveCeiling, Again, SecondCaller, Blocking, Other}
 use Rattle.al_tasks.specs.Task.{Task, Program, World}
 
--- the state of a task that isn't ready
+-- the state of a task that is paused
 abbrev pub state_of : Pause → TaskState
 state_of pause.Created = Created
 state_of pause.Activating = Activating
@@ -30,15 +30,16 @@ abbrev pub innermost : List Entered → Option ℕ
 innermost [] = None
 innermost (h ∷ hs) = Some h.object
 
+-- what a task in a given state is doing
 abbrev pub look_at : TaskState → Task → TaskLook
 look_at state t = record { number = t.number; base = t.base; level = t.active; state = state; object = innermost t.held; place = t.place }
 
--- the task of a number among ready ones, the first of which is in this state
+-- the task of this number among ready ones, the first of which is in the given state
 abbrev pub among_ready : ℕ → TaskState → List Task → Option TaskLook
 among_ready number state [] = None
 among_ready number state (t ∷ ts) = if t.number == number then Some (look_at state t) else among_ready number Ready ts
 
--- the task of a number among those that aren't ready
+-- the task of this number among paused ones
 abbrev pub among_paused : ℕ → List Task → Option TaskLook
 among_paused number [] = None
 among_paused number (t ∷ ts) = if t.number == number then Some (look_at (state_of t.pause) t) else among_paused number ts
@@ -47,7 +48,7 @@ abbrev pub or_among : Option TaskLook → Option TaskLook → Option TaskLook
 or_among (Some look) other = Some look
 or_among None other = other
 
--- what the task of a number is doing: the first ready one runs (ARM D.2.1); none where it isn't created
+-- what the task of this number is doing: the first ready one runs (ARM D.2.1); None if there is no such task yet
 abbrev pub look_of : World → ℕ → Option TaskLook
 look_of w number = or_among (among_ready number Running w.ready) (among_paused number w.paused)
 
@@ -61,17 +62,17 @@ abbrev pub number_of_first : List Task → Option ℕ
 number_of_first [] = None
 number_of_first (t ∷ ts) = Some t.number
 
--- the number of the task that is inside the object of a number: one that isn't ready is inside nothing (`exclusion`)
+-- the number of the task that is inside the object of this number; a paused one is inside nothing (`exclusion`)
 abbrev pub owner_of : ℕ → List Task → Option ℕ
 owner_of object [] = None
 owner_of object (t ∷ ts) = if is_entered t.held object then Some t.number else owner_of object ts
 
--- why a task can't enter an object: it comes from above the ceiling, or from inside
+-- why a task can't enter an object: its active priority is above the ceiling, or it is inside already
 abbrev pub entering_cause : ℕ → Task → Option Region → ErrorCause
 entering_cause object t None = Again object
 entering_cause object t (Some region) = if nat_lt region.ceiling t.active then AboveCeiling object region.ceiling t.active else Again object
 
--- why a task can't wait, or put something out: it is inside an object
+-- why a task can't wait or print something: it is inside an object
 abbrev pub blocking_cause : List Entered → ErrorCause
 blocking_cause [] = Other
 blocking_cause (h ∷ hs) = Blocking h.object

@@ -9,8 +9,9 @@ use Rattle.al_tasks.specs.declared.event.Pause.{Pause}
 use Rattle.al_tasks.specs.declared.event.Pause.TheVariants.{Created, Activating, Delayed, Waiting, Ended}
 use Rattle.al_tasks.specs.declared.event.Ending.{Ending}
 
--- a task: its number; its own priority and its priority now; the objects it is inside, the last entered first, with the
--- priority before; where it stands in the code and in memory; whether its activation has ended; and why it isn't ready
+-- a task: its number; its base and its active priority; the objects it is inside, the last one entered first, each with the
+-- active priority before; its place in the code and its words in memory; whether its activation has ended; and why it is paused,
+-- if it is
 pub record Task : Type 0 where
   pub number : ℕ
   pub base : ℕ
@@ -21,8 +22,8 @@ pub record Task : Type 0 where
   pub begun : Bool
   pub pause : Pause
 
--- a program: its instructions with their places; its protected objects; where the code of each unit begins; its data words,
--- and how many tasks it may create; and where which lines of the units' texts begin in the code
+-- a program: its instructions with their places; its protected objects; the places at which the code of the units begins; its
+-- data words, and how many tasks it may create; and the places in the code at which lines of the units' sources begin
 pub record Program : Type 0 where
   pub code : List Step
   pub objects : List Region
@@ -31,9 +32,9 @@ pub record Program : Type 0 where
   pub tasks : ℕ
   pub lines : List LineEntry
 
--- a running program: memory; the ready tasks in the order of their dispatch, and the others by number; how many tasks are
--- created, whether they are made ready, and how many activations go on; the clock, in milliseconds; what was put out; and how
--- it ended, if it did
+-- a running program: memory; the ready tasks in the order of their dispatch, and the paused ones by number; how many tasks are
+-- created, whether they were made ready, and how many activations haven't ended; the clock, in milliseconds; the output; and how
+-- the program ended, if it did
 pub record World : Type 0 where
   pub memory : List ℤ
   pub ready : List Task
@@ -59,7 +60,7 @@ is_activating (Delayed _) = false
 is_activating (Waiting _) = false
 is_activating Ended = false
 
--- delayed to a moment that has come
+-- delayed until the clock's moment or an earlier one
 abbrev pub is_due : ℤ → Pause → Bool
 is_due clock Created = false
 is_due clock Activating = false

@@ -5,7 +5,7 @@ use Rattle.al_link_image.specs.declared.parts.ImageObject.{ImageObject}
 use Rattle.al_link_image.specs.Images.{Image}
 use Rattle.al_tasks.specs.Task.{Program}
 
--- where the code of each unit begins
+-- the places at which the code of the units begins
 abbrev pub beginnings : List ImageObject → List ℕ
 beginnings objects = map (λ o. o.place) objects
 

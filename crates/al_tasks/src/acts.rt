@@ -1,5 +1,5 @@
-// What the instructions on tasks make of a running program. Each takes the running task, which was taken out of the ready ones, and puts it
-// back somewhere.
+// The effects of the instructions on tasks. Each function receives the running task, which was taken out of the ready ones, and puts it back into a
+// list.
 ghost use Rattle.std.specs.Prelude.{◌≡◌, ◌+◌, ◌<◌, ◌≤◌, ◌^◌, length, vec_len, vec_capacity, slice_get};
 ghost use Rattle.al_machine.specs.Machine.{IsWithin, machine};
 ghost use Rattle.al_machine.specs.Stack.{pushed};
@@ -19,7 +19,7 @@ use crate::{Ending, Pause};
 use al_base::NoMemory;
 use al_machine::{Exception, Trap, clear, copy, is_entered, push};
 
-/// The task goes on, as the first one.
+/// The task goes on as the running one.
 pub(crate) fn go_on(state: &mut State, task: Task)
     requires { HasRoom state.old }
     ensures world { seen state.new ≡ running task state.old }
@@ -37,7 +37,7 @@ pub(crate) fn stick(state: &mut State, task: Task)
     state.ended = Some(Ending::Stuck);
 }
 
-/// An exception is raised where the task stands.
+/// An exception is raised at the task's place.
 pub(crate) fn raise(program: &Program, state: &mut State, task: Task, exception: Exception)
     requires { HasRoom state.old }
     ensures { seen state.new ≡ world.raises program.now exception task (running task state.old) }
@@ -57,7 +57,7 @@ fn pause(state: &mut State, mut task: Task, why: Pause)
     put_by_number(&mut state.paused, task);
 }
 
-/// A task is created, which begins at a place.
+/// Creates a task that begins at a place.
 #[tactic(auto, unfolding(crate::specs::World::handled))]
 pub(crate) fn create(
     program: &Program,
@@ -84,7 +84,7 @@ pub(crate) fn create(
     state.created = number;
 }
 
-/// The created tasks become ready, and the environment waits for their activations.
+/// The created tasks become ready, and the environment task waits for their activations.
 #[tactic(auto, unfolding(crate::specs::World::handled))]
 pub(crate) fn go(program: &Program, state: &mut State, mut task: Task, next: usize)
     requires { HasRoom state.old }
@@ -103,7 +103,7 @@ pub(crate) fn go(program: &Program, state: &mut State, mut task: Task, next: usi
     release(&mut state.ready, &mut state.paused, Wanted::Created);
 }
 
-/// The task's activation ends; the last one makes the environment ready.
+/// The task's activation ends. If it was the last one, the environment task becomes ready.
 #[tactic(auto, unfolding(crate::specs::World::handled))]
 pub(crate) fn begin(program: &Program, state: &mut State, mut task: Task, next: usize)
     requires { HasRoom state.old }
@@ -122,7 +122,7 @@ pub(crate) fn begin(program: &Program, state: &mut State, mut task: Task, next: 
     }
 }
 
-/// The task ends; the program does where all its tasks have.
+/// The task ends. If all tasks have ended, so has the program.
 #[tactic(auto, unfolding(crate::specs::World::handled))]
 pub(crate) fn finish(program: &Program, state: &mut State, mut task: Task, next: usize)
     requires { HasRoom state.old }
@@ -171,7 +171,7 @@ pub(crate) fn push_clock(program: &Program, state: &mut State, task: Task, next:
     push_word(program, state, task, clock, next);
 }
 
-/// Delays the task until the moment on top of its stack; where that isn't later than now, it goes to the tail of its level.
+/// Delays the task until the moment on top of its stack. If that isn't later than now, the task goes to the tail of its level.
 #[tactic(auto, unfolding(crate::specs::World::handled))]
 pub(crate) fn sleep(program: &Program, state: &mut State, mut task: Task, next: usize)
     requires room { HasRoom state.old }
@@ -197,6 +197,10 @@ pub(crate) fn sleep(program: &Program, state: &mut State, mut task: Task, next: 
 }
 
 /// Enters a protected object.
+///
+/// # Errors
+///
+/// `NoMemory` if the allocator refuses memory. The program is then as before.
 pub(crate) fn enter(
     program: &Program,
     state: &mut State,
@@ -226,6 +230,10 @@ pub(crate) fn enter(
 }
 
 /// Enters a protected object to call its entry.
+///
+/// # Errors
+///
+/// `NoMemory` if the allocator refuses memory. The program is then as before.
 #[tactic(auto, unfolding(crate::specs::World::handled))]
 pub(crate) fn enter_entry(
     program: &Program,
@@ -282,7 +290,7 @@ pub(crate) fn push_waiting(
     push_word(program, state, task, if waits { 1 } else { 0 }, next);
 }
 
-/// The waiting caller becomes ready.
+/// Makes the waiting caller of an object's entry ready.
 #[tactic(auto, unfolding(crate::specs::World::handled))]
 pub(crate) fn wake(program: &Program, state: &mut State, mut task: Task, object: u32, next: usize)
     requires { HasRoom state.old }
@@ -299,7 +307,7 @@ pub(crate) fn wake(program: &Program, state: &mut State, mut task: Task, object:
     release(&mut state.ready, &mut state.paused, Wanted::Waiting(object));
 }
 
-/// Leaves the object, which is the only one that the task is inside, and waits at its entry.
+/// Leaves the object, which must be the only one that the task is inside, and waits at its entry.
 #[tactic(auto, using(crate::proofs::ActLemmas::blocks_none, crate::proofs::ActLemmas::blocks_other, crate::proofs::ActLemmas::blocks_called, crate::proofs::ActLemmas::blocks_waits, crate::proofs::ActLemmas::left_at), unfolding(crate::specs::World::handled))]
 pub(crate) fn block(program: &Program, state: &mut State, mut task: Task, object: u32, next: usize)
     requires { HasRoom state.old }
@@ -319,7 +327,7 @@ pub(crate) fn block(program: &Program, state: &mut State, mut task: Task, object
     pause(state, task, Pause::Waiting(object));
 }
 
-/// Gives words of a protected object their first values.
+/// Gives the words of a protected object their first values.
 #[tactic(auto, unfolding(crate::specs::World::handled))]
 pub(crate) fn seed(
     program: &Program,

@@ -1,4 +1,4 @@
-// What holds after every list of events.
+// Laws of all lists of events, as contracts of functions without code.
 ghost use Rattle.std.specs.Prelude.{◌≡◌, ◌+◌, ℕ, List};
 ghost use Rattle.al_link_image.specs.Images as images;
 ghost use Rattle.al_tasks.specs.declared.event.Event.{Event};
@@ -9,11 +9,16 @@ ghost use Rattle.al_tasks.specs.WorldPrograms.{program_of};
 ghost use Rattle.al_tasks.specs.Partitions.{Partition, part_of_run, ran_on};
 ghost use Rattle.al_tasks.specs.Exclusion.{Each, EachAfter, Apart, Above, Descends, InsideNothing, WordsAreKept, WordsAreUnread, reached};
 
-/// Exclusion by priorities alone (ARM 9.5.1, D.3), for every image and every list of events from its load, whatever ticks come
-/// between whatever instructions: no two tasks are inside one protected object; a task that isn't ready is inside nothing; the ready
-/// tasks stand by their priorities now, highest first (ARM D.2.2), and whoever stands ahead of a task that is inside something has a
-/// base priority above that task's priority now. The words of an object change only by an instruction of the task inside it, apart
-/// from their seeds before Go, and are read only by one.
+/// Exclusion by priorities alone (ARM 9.5.1, D.3). It holds for every image and every list of events from its start, whatever ticks come among the
+/// instructions.
+///
+/// - `apart`: no two tasks are inside one protected object.
+/// - `nothing`: a task that isn't ready is inside no object.
+/// - `levels`: the ready tasks are in the order of their active priorities, highest first (ARM D.2.2).
+/// - `above`: if a task is inside an object, every task ahead of it has a base priority above its active priority.
+/// - `words`: the words of an object change only by instructions of the task that is inside it, apart from their first values, which they get before
+///   `Go`.
+/// - `unread`: they are read only by instructions of the task that is inside it.
 pub fn exclusion()
     ensures apart { (image : images.Image) (events : List Event) → EachAfter Apart (reached image events).ready }
     ensures nothing { (image : images.Image) (events : List Event) → Each InsideNothing (reached image events).paused }
@@ -28,7 +33,8 @@ pub fn runs_are_events()
     ensures { (p : Program) (steps n since : ℕ) (w : World) → (events : List Event) × (ran p steps n since w ≡ after p w events) }
 {}
 
-/// A run in parts is the run in one: what its last part gives is what the whole gives, the count of instructions since the last tick too.
+/// A run in parts is the same as the run in one: the last part gives the result of the whole, and the same number of instructions since the last
+/// tick.
 pub fn parts_are_the_run()
     ensures parts { (a b n since : ℕ) (w : Partition) → (let first = part_of_run a n since w in part_of_run b n first.0 first.1) ≡ part_of_run (a + b) n since w }
     ensures run { (steps n : ℕ) (w : Partition) → (part_of_run steps n 0 w).1 ≡ ran_on steps n w }

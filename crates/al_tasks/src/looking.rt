@@ -1,4 +1,4 @@
-// What the tasks of a running program are doing, and the events of a run a few at a time, for whoever shows what happens.
+// What the tasks of a running program are doing, and runs in steps of a few events, for programs that show what happens.
 ghost use Rattle.std.specs.Prelude.{◌≡◌, None, slice_get, ◌+◌, ◌<◌, ◌≤◌, ◌^◌, IfOk, OnErr};
 ghost use Rattle.al_tasks.specs.Bursts.{went};
 ghost use Rattle.al_tasks.specs.Exclusion.{IsLaidOut};
@@ -27,65 +27,68 @@ use al_machine::{Entered, Operation, TaskInstruction, is_entered};
 pub enum TaskState {
     /// It is on the processor.
     Running,
-    /// It could run, and another one does.
+    /// It could run, but another task does.
     Ready,
-    /// It is created, and the tasks aren't made ready yet.
+    /// It is created, and `Go` hasn't been carried out yet.
     Created,
     /// It waits until each library task has passed its declarative part.
     Activating,
     /// It is delayed until a moment, in milliseconds from the start.
     Delayed(i64),
-    /// It waits at the entry of the protected object of that number.
+    /// It waits at the entry of the protected object of this number.
     Waiting(u32),
+    /// It has ended.
     Ended,
 }
 
-/// A task between two events.
+/// What a task is doing between two events.
 #[derive(Clone, Copy)]
 pub struct TaskLook {
-    /// 0 is the environment task, and the others count from 1 in the order of their creation.
+    /// 0 is the environment task. The others count from 1, in the order of their creation.
     pub number: u32,
-    /// Its own priority.
+    /// The base priority.
     pub base: u32,
-    /// Its active priority (ARM D.1).
+    /// The active priority (ARM D.1).
     pub level: u32,
+    /// What it is doing.
     pub state: TaskState,
     /// The number of the protected object that it entered last and is inside.
     pub object: Option<u32>,
-    /// Where its next instruction begins, in bytes from the beginning of the code.
+    /// The place of its next instruction, in bytes from the beginning of the code.
     pub place: usize,
 }
 
 /// Why Program_Error ended a run.
 #[derive(Clone, Copy)]
 pub enum ErrorCause {
-    /// The ceiling of the protected object of that number is below the task's active priority (ARM D.3).
+    /// The ceiling of the protected object of this number is below the task's active priority (ARM D.3).
     AboveCeiling {
         object: u32,
         ceiling: u32,
         level: u32,
     },
-    /// The task calls an operation of the protected object of that number from inside it.
+    /// The task calls an operation of the protected object of this number from inside it.
     Again(u32),
-    /// Another task waits at the entry of the protected object of that number (ARM D.7).
+    /// Another task waits at the entry of the protected object of this number (ARM D.7).
     SecondCaller(u32),
-    /// The task would wait, or puts something out, inside the protected object of that number (ARM 9.5.1).
+    /// The task would wait, or print something, inside the protected object of this number (ARM 9.5.1).
     Blocking(u32),
-    /// The code says so.
+    /// An instruction raises it.
     Other,
 }
 
-/// What came of going on with a run.
+/// The result of going on with a run.
 #[derive(Clone, Copy)]
 pub struct Advanced {
     /// How many events there were.
     pub done: u64,
-    /// How many instructions came since the last tick.
+    /// How many instructions there were since the last tick.
     pub since: u64,
-    /// The event; none where instructions on words were carried out, which change no more of any task than its place.
+    /// The event. `None` if instructions on words were carried out: they change only their task's place and words.
     pub event: Option<Event>,
 }
 
+// The state of a task that is paused.
 fn state_of(pause: Pause) -> TaskState
     ensures { result ≡ state_of pause }
 {
@@ -98,6 +101,7 @@ fn state_of(pause: Pause) -> TaskState
     }
 }
 
+// The object that was entered last.
 fn innermost(held: &[Entered]) -> Option<u32>
     ensures { result ≡ innermost held.now }
 {
@@ -107,6 +111,7 @@ fn innermost(held: &[Entered]) -> Option<u32>
     }
 }
 
+// What a task in a given state is doing.
 fn look_at(state: TaskState, task: &Task) -> TaskLook
     ensures { result ≡ look_at state task.now }
 {
@@ -120,7 +125,7 @@ fn look_at(state: TaskState, task: &Task) -> TaskLook
     }
 }
 
-/// The task of a number among ready ones, of which the first is on the processor.
+/// What the task of this number is doing, if it is among the ready ones. The first of these is on the processor.
 fn among_ready(number: u32, ready: &[Task]) -> Option<TaskLook>
     ensures { result ≡ among_ready number Running ready.now }
 {
@@ -134,7 +139,7 @@ fn among_ready(number: u32, ready: &[Task]) -> Option<TaskLook>
     None
 }
 
-/// The task of a number among those that aren't ready.
+/// What the task of this number is doing, if it is among the paused ones.
 fn among_paused(number: u32, paused: &[Task]) -> Option<TaskLook>
     ensures { result ≡ among_paused number paused.now }
 {
@@ -172,7 +177,7 @@ fn entering_cause(object: u32, task: &Task, objects: &[Region]) -> ErrorCause
     }
 }
 
-/// Why a task can't wait, or put something out.
+/// Why a task can't wait or print something.
 fn blocking_cause(task: &Task) -> ErrorCause
     ensures { result ≡ blocking_cause task.now.held }
 {
@@ -202,7 +207,7 @@ fn cause_of(operation: &Operation, task: &Task, objects: &[Region]) -> ErrorCaus
     }
 }
 
-/// Instructions on words of the running task up to the next tick, or one event.
+/// Carries out instructions on words of the running task up to the next tick, or else one event.
 fn advance(
     program: &Program,
     state: &mut State,
@@ -240,7 +245,7 @@ fn advance(
 }
 
 impl World {
-    /// What the task of a number is doing; none where it isn't created.
+    /// What the task of this number is doing; `None` if there is no such task yet.
     pub fn look(&self, number: u32) -> Option<TaskLook>
         ensures { result ≡ look_of self.now.world number }
     {
@@ -257,14 +262,14 @@ impl World {
         self.state.created
     }
 
-    /// Milliseconds from the start.
+    /// The clock, in milliseconds from the start.
     pub fn clock(&self) -> i64
         ensures { result ≡ self.now.world.clock }
     {
         self.state.clock
     }
 
-    /// Where the running task's next instruction begins; none if no task is ready.
+    /// The place of the running task's next instruction; `None` if no task is ready.
     pub fn place(&self) -> Option<usize>
         ensures { result ≡ place_of_first self.now.world.ready }
     {
@@ -274,7 +279,7 @@ impl World {
         }
     }
 
-    /// The number of the running task; none if no task is ready.
+    /// The number of the running task; `None` if no task is ready.
     pub fn running(&self) -> Option<u32>
         ensures { result ≡ number_of_first self.now.world.ready }
     {
@@ -284,14 +289,14 @@ impl World {
         }
     }
 
-    /// The number of the task that is inside the protected object of a number.
+    /// The number of the task that is inside the protected object of this number.
     pub fn owner(&self, object: u32) -> Option<u32>
         ensures { result ≡ owner_of object self.now.world.ready }
     {
         owner_of(object, self.state.ready.as_slice())
     }
 
-    /// Why the instruction of the running task raised Program_Error, where it did.
+    /// Why the instruction of the running task raised Program_Error, if it did.
     pub fn cause(&self) -> ErrorCause
         ensures { result ≡ cause_of_first self.now.program self.now.world.ready }
     {
@@ -304,7 +309,7 @@ impl World {
         }
     }
 
-    /// Whose code a place is in, by the number of the unit among the image's objects, and on which line of its text.
+    /// The source of the code at a place: the number of the unit among the image's objects, and the line in its source.
     pub fn source_of(&self, place: usize) -> (Option<usize>, Option<u32>)
         ensures unit { result.0 ≡ unit_at 0 self.now.program.units place }
         ensures line { result.1 ≡ line_at self.now.program.lines place None }
@@ -312,8 +317,12 @@ impl World {
         (self.program.unit_at(place), self.program.line_at(place))
     }
 
-    /// Goes on with a run that has a tick after every n instructions and since whose last tick so many came: by instructions on words of the
-    /// running task up to the next tick, or by the one event that comes next. If memory runs out, the world is as it was.
+    /// Goes on with a run that has a tick after every `n` instructions, of which `since` came after the last tick. It carries out instructions on
+    /// words of the running task up to the next tick, or else the one event that comes next; at most `most` events.
+    ///
+    /// # Errors
+    ///
+    /// `NoMemory` if the allocator refuses memory. The world is then as before.
     pub fn advance(&mut self, n: u64, since: u64, most: u64) -> Result<Advanced, NoMemory>
         requires some { 1 ≤ most }
         requires room { since + most < 2 ^ 64 }

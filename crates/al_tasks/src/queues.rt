@@ -1,4 +1,4 @@
-// Lists of tasks: the ready ones in the order of their dispatch, and the others by number.
+// Lists of tasks: the ready ones in the order of their dispatch, and the paused ones by number.
 ghost use Rattle.std.specs.Prelude.{ℤ, int_lt, true, false, ◌≡◌, ◌+◌, ◌<◌, ◌≤◌, ◌≡◌, nat_le, nat_lt, not, insert, vec_len, vec_capacity, length};
 ghost use Rattle.std.specs.List.{list_any, list_all};
 ghost use Rattle.al_tasks.specs.Task.{is_waiting, is_ended, is_delayed, is_due};
@@ -9,14 +9,16 @@ ghost use Rattle.al_tasks.specs.Queues.{first_place, is_wanted};
 use crate::Pause;
 use crate::tasks::Task;
 
-/// Which of the tasks that aren't ready become so.
+/// Which of the paused tasks become ready.
 #[derive(Clone, Copy)]
 pub(crate) enum Wanted {
+    /// The ones that are created.
     Created,
+    /// The one that waits for activations to end.
     Activating,
-    /// Those that are delayed until this moment or an earlier one.
+    /// The ones that are delayed until this moment or an earlier one.
     Due(i64),
-    /// Those that wait at the entry of the object of that number.
+    /// The ones that wait at the entry of the object of this number.
     Waiting(u32),
 }
 
@@ -34,7 +36,7 @@ impl Wanted {
     }
 }
 
-/// Puts a task at a place of a list that has room.
+/// Puts a task at a place of a list that has room for it.
 pub(crate) fn put(queue: &mut Vec<Task>, place: usize, task: Task)
     requires place { place ≤ vec_len queue.old }
     requires room { vec_len queue.old < vec_capacity queue.old }
@@ -105,7 +107,7 @@ pub(crate) fn put_at_tail(queue: &mut Vec<Task>, task: Task)
     put(queue, place, task);
 }
 
-/// Puts a task among the others by its number.
+/// Puts a task into a list that is ordered by number.
 pub(crate) fn put_by_number(queue: &mut Vec<Task>, task: Task)
     requires { vec_len queue.old < vec_capacity queue.old }
     ensures items { queue.new.items ≡ by_number task queue.old.items }
@@ -117,7 +119,7 @@ pub(crate) fn put_by_number(queue: &mut Vec<Task>, task: Task)
     put(queue, place, task);
 }
 
-/// Those that are wanted become ready, in the order of their numbers, each at the tail of its level.
+/// Makes the wanted tasks ready, in the order of their numbers, each at the tail of its level.
 pub(crate) fn release(ready: &mut Vec<Task>, paused: &mut Vec<Task>, wanted: Wanted)
     requires { vec_len ready.old + vec_len paused.old ≤ vec_capacity ready.old }
     ensures ready { ready.new.items ≡ all_at_tail (passing (is_wanted wanted) paused.old.items) ready.old.items }
@@ -161,7 +163,7 @@ pub(crate) fn has_delayed(paused: &[Task]) -> bool
     false
 }
 
-/// The earlier one of a moment and the one that a task is delayed to, if it is.
+/// The given moment, or the one until which a task is delayed if that is earlier.
 fn sooner(moment: i64, pause: &Pause) -> i64
     ensures { (clock : ℤ) → int_lt clock result ≡ true → (int_lt clock moment ≡ true) × (is_due clock pause.now ≡ false) }
 {
@@ -171,7 +173,7 @@ fn sooner(moment: i64, pause: &Pause) -> i64
     moment.min(*other)
 }
 
-/// The earliest moment that a task is delayed to; without such a task the last of all moments.
+/// The earliest moment until which a task is delayed; the last of all moments if no task is delayed.
 pub(crate) fn earliest(paused: &[Task]) -> i64
     ensures { (clock : ℤ) → int_lt clock result ≡ true → is_any_due clock paused.now ≡ false }
 {

@@ -14,13 +14,13 @@ use std::alloc::Global;
 pub enum RunEnd {
     /// All tasks have ended.
     Finished,
-    /// No task is ready or delayed.
+    /// No task is ready or delayed, and some haven't ended.
     Idle,
-    /// The events that were allowed are used up.
+    /// The number of events that was allowed is used up.
     Spent,
     /// The image is damaged.
     Stuck,
-    /// An exception was raised in the code of this unit, on this line of its text where the image tells that.
+    /// An exception was raised in the code of this unit, on this line of its source if the image has lines.
     Raised {
         exception: Exception,
         unit: UnitKey,
@@ -28,14 +28,16 @@ pub enum RunEnd {
     },
 }
 
-/// What a run put out, and how it ended.
+/// The output of a run, and how it ended.
 #[derive(Drop)]
 pub struct RunReport {
+    /// The output, in bytes.
     pub output: Vec<u8>,
+    /// How it ended.
     pub ended: RunEnd,
 }
 
-/// How a run ended in which an exception was raised in the code of this unit.
+/// The end of a run in which an exception was raised in the code of a unit.
 fn raised_in(
     alloc: Global,
     exception: Exception,
@@ -59,7 +61,7 @@ fn raised_in(
     }
 }
 
-/// How a run ended whose image has these units.
+/// The end of a run whose image has these units.
 fn end_of(alloc: Global, objects: &[ImageObject], status: Status) -> Result<RunEnd, NoMemory>
     ensures { IfOk result (λ ended. ended ≡ end_of objects.now status) }
 {
@@ -72,11 +74,11 @@ fn end_of(alloc: Global, objects: &[ImageObject], status: Status) -> Result<RunE
     }
 }
 
-/// Runs an image from its start, for at most so many events, with a tick of the clock after each `tick` instructions.
+/// Runs an image from its start, for at most `steps` events, with a tick of the clock after every `tick` instructions.
 ///
 /// # Errors
 ///
-/// `NoMemory` where memory was wanted and not given.
+/// `NoMemory` if the allocator refuses memory.
 pub fn run(alloc: Global, image: &Image, tick: u32, steps: u64) -> Result<RunReport, NoMemory>
     ensures { IfOk result (λ ran. run_model ran ≡ run_of image.now tick steps) }
 {

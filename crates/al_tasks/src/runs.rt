@@ -1,4 +1,4 @@
-// Runs: which events come, and what becomes of the program.
+// Runs: which event comes next, and the status of the program.
 ghost use Rattle.std.specs.Prelude.{[], ◌≡◌, ◌<◌, ◌≤◌, ◌+◌, ◌^◌, ℕ, OnOk, OnErr, IfOk};
 ghost use Rattle.al_tasks.specs.Exclusion.{IsLaidOut};
 ghost use Rattle.al_tasks.specs.Fits.{Fits};
@@ -14,7 +14,7 @@ use crate::state::State;
 use crate::{Ending, Event, Status};
 use al_base::NoMemory;
 
-/// What becomes of a running program.
+/// The status of a running program.
 pub(crate) fn status_of(state: &State) -> Status
     ensures { result ≡ status_of (seen state.now) }
 {
@@ -32,7 +32,7 @@ pub(crate) fn status_of(state: &State) -> Status
     }
 }
 
-/// Which event a run has next, with a tick after every n instructions, since whose last tick so many came.
+/// The next event of a run with a tick after every `n` instructions, of which `since` came after the last tick.
 pub(crate) fn chosen(state: &State, n: u64, since: u64) -> Event
     ensures { result ≡ chosen n since (seen state.now) }
 {
@@ -43,7 +43,7 @@ pub(crate) fn chosen(state: &State, n: u64, since: u64) -> Event
     }
 }
 
-/// How many instructions came since the last tick.
+/// How many instructions came after the last tick, one event later.
 pub(crate) fn since_after(since: u64, event: Event) -> u64
     requires { since + 1 < 2 ^ 64 }
     ensures { result ≡ since_after since event }
@@ -54,7 +54,7 @@ pub(crate) fn since_after(since: u64, event: Event) -> u64
     }
 }
 
-/// Instructions on words of the running task, at most so many; how many were carried out.
+/// Carries out at most `most` instructions on words of the running task. Gives how many were carried out.
 #[inline(never)]
 pub(crate) fn work_on(program: &Program, state: &mut State, most: u64) -> u64
     requires { Fits program.now (seen state.old) }
@@ -70,7 +70,7 @@ pub(crate) fn work_on(program: &Program, state: &mut State, most: u64) -> u64
     task.carry_on(&mut state.memory, bursts, most)
 }
 
-/// The clock so many ticks later.
+/// The clock some ticks later.
 fn later(clock: i64, ticks: u64) -> i64
     ensures { result ≡ later ticks clock }
 {
@@ -82,7 +82,7 @@ fn later(clock: i64, ticks: u64) -> i64
     now
 }
 
-/// How many ticks come between so many instructions, with a tick after every n, since whose last tick so many came.
+/// How many ticks there are among `done` instructions, with a tick after every `n` of them, of which `since` came after the last tick before.
 fn ticks_between(n: u64, since: u64, done: u64) -> u64
     requires some { 0 < n }
     requires since { since ≤ n }
@@ -93,7 +93,7 @@ fn ticks_between(n: u64, since: u64, done: u64) -> u64
     (since + done - 1) / n
 }
 
-/// At most how many instructions come before a tick at which a task is due, since whose last tick so many came.
+/// How many instructions can come before a tick at which a delayed task becomes ready, if `since` of them came after the last tick.
 fn most_before_due(state: &State, n: u64, since: u64) -> u64
     requires { since < n }
     ensures { (k : ℕ) → 0 < k → k ≤ result → IsQuiet (ticks_in n since k) state.now.clock state.now.paused.items }
@@ -109,8 +109,8 @@ fn most_before_due(state: &State, n: u64, since: u64) -> u64
     (n - since).min(1_073_741_824) + rounds * n.min(1_073_741_824)
 }
 
-/// Instructions on words of the running task, and the ticks between them, which move the clock alone as long as no task is due. At most half as
-/// many instructions as events are left, since each tick comes after one.
+/// Carries out instructions on words of the running task, and the ticks among them. As long as no delayed task becomes ready, these move only the
+/// clock. There are at most half as many instructions as events are left, since each tick comes after an instruction.
 fn turn_through(program: &Program, state: &mut State, n: u64, since: u64, most: u64) -> Turned
     requires fits { Fits program.now (seen state.old) }
     requires laid { IsLaidOut program.now }
@@ -136,14 +136,14 @@ fn turn_through(program: &Program, state: &mut State, n: u64, since: u64, most: 
     }
 }
 
-/// What a turn of a run did: how many events there were, and how many instructions came since the last tick.
+/// What a turn of a run did: how many events there were, and how many instructions came after the last tick.
 #[derive(Clone, Copy)]
 struct Turned {
     done: u64,
     since: u64,
 }
 
-/// At most so many events, and one at least.
+/// Carries out at most `most` events of a run, and at least one.
 fn turn(
     program: &Program,
     state: &mut State,
@@ -176,8 +176,12 @@ fn turn(
     })
 }
 
-/// Runs at most so many events, until the program ends or is idle, since whose last tick so many instructions came; how many have come then. Where
-/// memory was wanted and not given, all is as after the events before that one.
+/// Runs at most `steps` events, until the program ends or is idle, with a tick after every `n` instructions, of which `since` came after the last
+/// tick. Gives how many came after the last tick at the end.
+///
+/// # Errors
+///
+/// `NoMemory` if the allocator refuses memory. The program is then as after the events before the one that needed it.
 pub(crate) fn run_events(
     program: &Program,
     state: &mut State,

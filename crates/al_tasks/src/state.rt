@@ -1,10 +1,11 @@
-// A running program.
+// The parts of a running program that its events change.
 use crate::Ending;
 use crate::tasks::Task;
 use std::alloc::Global;
 
-/// A running program: memory; the ready tasks in the order of their dispatch, and the others by number; how many tasks are created,
-/// whether they were made ready, and how many activations go on; the clock, in milliseconds; what was put out; how it ended, if it did.
+/// The parts of a running program that its events change: memory; the ready tasks in the order of their dispatch, and the paused ones by number; how
+/// many tasks are created, whether they were made ready, and how many activations haven't ended; the clock, in milliseconds; the output; how the
+/// program ended, if it did.
 pub(crate) struct State {
     pub(crate) memory: Vec<i64>,
     pub(crate) ready: Vec<Task>,

@@ -1,4 +1,4 @@
-// Tasks.
+// A task.
 ghost use Rattle.std.specs.Prelude.{◌≡◌, ◌<◌, ◌≤◌, ◌^◌, length, OnOk, OnErr, IsTrue, ◌↔◌};
 ghost use Rattle.al_machine.specs.Machine.{machine, IsWithin};
 ghost use Rattle.al_machine.specs.Table.{exec as executed};
@@ -17,8 +17,8 @@ use al_machine::{
 use std::alloc::Global;
 use std::marker::Model;
 
-/// A task: its number, its own priority and its priority now; the objects that it is inside, the last entered first; where it stands in the
-/// code and in memory; whether its activation has ended; and why it isn't ready.
+/// A task: its number; its base and its active priority; the objects that it is inside, the last one entered first; its place in the code and its
+/// words in memory; whether its activation has ended; and why it is paused, if it is.
 #[derive(Drop)]
 pub(crate) struct Task {
     pub(crate) number: u32,
@@ -40,7 +40,7 @@ impl Model for Task {
 }
 
 impl Task {
-    /// A new task, with a frame of three words at the beginning of its own.
+    /// A new task, whose frame of three words is at the beginning of its stack words.
     pub(crate) fn new(alloc: Global, number: u32, priority: u32, place: usize, first: usize) -> Task
         requires { first < 2 ^ 63 }
         ensures { result ≡ new_task number priority place first }
@@ -61,26 +61,28 @@ impl Task {
         }
     }
 
+    /// The task's number.
     pub(crate) fn number(&self) -> u32
         ensures { result ≡ self.now.number }
     {
         self.number
     }
 
-    /// Its priority now.
+    /// The task's active priority.
     pub(crate) fn level(&self) -> u32
         ensures { result ≡ self.now.active }
     {
         self.active
     }
 
+    /// The place of the task's next instruction.
     pub(crate) fn place(&self) -> usize
         ensures { result ≡ self.now.place }
     {
         self.place
     }
 
-    /// The number of the object that it is inside, where that is the only one.
+    /// The number of the object that the task is inside, if it is inside exactly one.
     pub(crate) fn sole(&self) -> Option<u32>
         ensures { result ≡ sole_of self.now.held }
     {
@@ -91,13 +93,18 @@ impl Task {
         }
     }
 
+    /// Whether the task is inside no object.
     pub(crate) fn is_inside_nothing(&self) -> bool
         ensures { result ≡ is_inside_nothing self.now.held }
     {
         self.held.is_empty()
     }
 
-    /// Enters one more object, and has its ceiling as its priority.
+    /// Enters one more object, whose ceiling becomes the active priority.
+    ///
+    /// # Errors
+    ///
+    /// `NoMemory` if the allocator refuses memory. The task is then as before.
     pub(crate) fn enter(&mut self, object: u32, ceiling: u32) -> Result<(), NoMemory>
         ensures ok { OnOk result (self.new ≡ inside self.old object ceiling) }
         ensures err { OnErr result (self.new ≡ self.old) }
@@ -111,7 +118,7 @@ impl Task {
         Ok(())
     }
 
-    /// Leaves the object that it entered last, if it is inside one.
+    /// Leaves the object that the task entered last, if it is inside one.
     pub(crate) fn leave(&mut self)
         ensures { self.new ≡ left_by self.old self.old.held }
     {
@@ -122,7 +129,7 @@ impl Task {
         self.active = entered.before;
     }
 
-    /// Carries out an instruction on words, and says what stops the run, if anything does.
+    /// Carries out an instruction on words. Gives what stops the run, if anything does.
     #[inline(always)]
     pub(crate) fn run(
         &mut self,
@@ -158,7 +165,8 @@ impl Task {
             Err(trap) => Some(trap),
         }
     }
-    /// Carries out instructions on words, at most so many, while they go on; how many were carried out.
+    /// Carries out at most `most` instructions on words, as long as the next one is on words and nothing stops the run. Gives how many were carried
+    /// out.
     #[inline(always)]
     pub(crate) fn carry_on(&mut self, memory: &mut [i64], bursts: &Bursts, most: u64) -> u64
         requires within { IsWithin (machine memory.old self.old.registers) }

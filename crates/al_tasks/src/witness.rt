@@ -1,26 +1,37 @@
-// Runs at which somebody looks on.
+// Runs that somebody watches.
 ghost use Rattle.std.specs.Prelude.{◌≡◌, ◌+◌, ◌<◌, ◌≤◌, ◌^◌, ℕ, IfOk, OnErr};
 ghost use Rattle.al_tasks.specs.Partitions.{part_of_run};
 
 use crate::{Advanced, Status, World};
 use al_base::NoMemory;
 
-/// Who looks on at a run. Whoever it is sees the world and can't change it.
+/// Somebody who watches a run. A witness sees the world and can't change it.
 pub trait Witness {
-    /// Up to how many events may come before it looks on again.
+    /// The largest number of events that may come before the witness looks again.
     fn stride(&self) -> u64
         ensures { 1 ≤ result };
 
     /// Looks at the world before the first event of a part of a run.
+    ///
+    /// # Errors
+    ///
+    /// `NoMemory` if the allocator refuses memory.
     fn begin(&mut self, world: &World) -> Result<(), NoMemory>;
 
     /// Looks at the world after some events.
+    ///
+    /// # Errors
+    ///
+    /// `NoMemory` if the allocator refuses memory.
     fn look_on(&mut self, world: &World, advanced: Advanced) -> Result<(), NoMemory>;
 }
 
 impl World {
-    /// A part of a run at which somebody looks on: it is the part of the run that `tick_run_on` makes, whoever that is. Where memory was wanted and
-    /// not given, the world is as after so many of its events.
+    /// A part of a run that a witness watches. It is the same part that `tick_run_on` makes, whoever the witness is.
+    ///
+    /// # Errors
+    ///
+    /// `NoMemory` if the allocator refuses memory. The world is then as after some of the part's events.
     pub fn watched_run_on<W: Witness>(
         &mut self,
         witness: &mut W,

@@ -1,4 +1,4 @@
-// A running program, for its users.
+// A running program, as its users see it.
 ghost use Rattle.std.specs.Prelude.{◌≡◌, ◌+◌, ◌≤◌, ◌∷◌, OnOk, OnErr, IfOk, [], ℕ, ◌<◌, ◌^◌, pos, replicate};
 ghost use Rattle.al_tasks.specs.World.{load};
 ghost use Rattle.al_tasks.specs.Runs.{status_of};
@@ -44,7 +44,7 @@ impl Model for World {
     ghost invariant = { λ w. Fits w.program (seen w.state) };
 }
 
-/// All words 0.
+/// Memory in which all words are 0.
 fn empty_memory(alloc: Global, size: usize) -> Result<Vec<i64>, NoMemory>
     ensures { IfOk result (λ memory. memory.items ≡ replicate size (pos 0)) }
 {
@@ -53,7 +53,7 @@ fn empty_memory(alloc: Global, size: usize) -> Result<Vec<i64>, NoMemory>
     Ok(memory)
 }
 
-/// The environment task alone, and room for all the others.
+/// The environment task alone, in a list with room for all the others.
 fn first_tasks(alloc: Global, first: usize, tasks: usize) -> Result<Vec<Task>, NoMemory>
     requires first { first < 2 ^ 63 }
     requires tasks { tasks < 2 ^ 32 }
@@ -64,7 +64,7 @@ fn first_tasks(alloc: Global, first: usize, tasks: usize) -> Result<Vec<Task>, N
     Ok(ready)
 }
 
-/// The start of a program: the environment task alone is ready.
+/// A program at its start, when only the environment task exists.
 fn start(alloc: Global, program: &Program) -> Result<State, NoMemory>
     ensures { IfOk result (λ state. seen state ≡ load program.now) }
 {
@@ -87,7 +87,11 @@ fn start(alloc: Global, program: &Program) -> Result<State, NoMemory>
 }
 
 impl World {
-    /// A program at its start: the environment task alone is ready.
+    /// The program of an image at its start: the environment task alone exists, and is ready.
+    ///
+    /// # Errors
+    ///
+    /// `NoMemory` if the allocator refuses memory.
     pub fn load(alloc: Global, image: &Image) -> Result<World, NoMemory>
         ensures { IfOk result (λ world. world ≡ loaded image.now) }
     {
@@ -96,7 +100,11 @@ impl World {
         Ok(World { program, state })
     }
 
-    /// One event. Where memory was wanted and not given, the world is as it was.
+    /// One event.
+    ///
+    /// # Errors
+    ///
+    /// `NoMemory` if the allocator refuses memory. The world is then as before.
     pub fn step(&mut self, event: Event) -> Result<(), NoMemory>
         ensures ok { OnOk result (self.new ≡ stepped self.old event) }
         ensures err { OnErr result (self.new ≡ self.old) }
@@ -104,8 +112,12 @@ impl World {
         step(&self.program, &mut self.state, event)
     }
 
-    /// Runs at most so many events, with a tick where no task is ready and after every n instructions, until the program ends or is idle; where it is
-    /// still going then, its steps are spent. Where memory was wanted and not given, the world is as after the events before that one.
+    /// Runs at most `steps` events, until the program ends or is idle. A tick comes after every `n` instructions, and whenever no task is ready. If
+    /// the program is still going afterwards, its events are used up.
+    ///
+    /// # Errors
+    ///
+    /// `NoMemory` if the allocator refuses memory. The world is then as after the events before the one that needed it.
     pub fn tick_run(&mut self, steps: u64, n: u64) -> Result<(), NoMemory>
         ensures ok { OnOk result (self.new ≡ ran_on steps n self.old) }
         ensures err { OnErr result ((done : ℕ) × (done < steps) × (self.new ≡ ran_on done n self.old)) }
@@ -114,8 +126,13 @@ impl World {
         Ok(())
     }
 
-    /// A part of a run: the same, since whose last tick so many instructions came; how many have come then. A run in parts, each of which is given what the one before
-    /// gave back, is the run in one (`parts_are_the_run`).
+    /// A part of a run: at most `steps` events, with a tick after every `n` instructions, of which `since` came after the last tick. Gives how many
+    /// came after the last tick at the end of the part. A run in parts, each of which starts with the number that the one before gave, is the same as
+    /// the run in one (`parts_are_the_run`).
+    ///
+    /// # Errors
+    ///
+    /// `NoMemory` if the allocator refuses memory. The world is then as after the events before the one that needed it.
     pub fn tick_run_on(&mut self, steps: u64, n: u64, since: u64) -> Result<u64, NoMemory>
         requires { since + steps < 2 ^ 64 }
         ensures ok { IfOk result (λ last. (last, self.new) ≡ part_of_run steps n since self.old) }
@@ -126,21 +143,21 @@ impl World {
         Ok(last)
     }
 
-    /// What becomes of the program.
+    /// The status of the program.
     pub fn status(&self) -> Status
         ensures { result ≡ status_of self.now.world }
     {
         status_of(&self.state)
     }
 
-    /// What was put out.
+    /// The output so far, without what `let_go` has forgotten.
     pub fn output(&self) -> &[u8]
         ensures { result.now ≡ self.now.world.output }
     {
         self.state.output.as_slice()
     }
 
-    /// Lets go of what was put out. What comes is put out as ever.
+    /// Forgets the output so far. Later output is kept as before.
     pub fn let_go(&mut self)
         ensures { self.new ≡ forgotten self.old }
     {

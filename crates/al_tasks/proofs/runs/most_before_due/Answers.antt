@@ -8,7 +8,7 @@ use Rattle.al_tasks.specs.Bursts.{is_any_due}
 use Rattle.al_tasks.proofs.TickLemmas.{quiet_before, rounds_fit}
 use Rattle.al_tasks.proofs.runs.most_before_due.Goals as goal
 
--- so many ticks and one more end no later than the moment
+-- one more than r ticks end no later than the moment
 enough : (clock moment ticks : ℤ) (r : ℕ) → ticks ≡ (moment -ℤ clock) → le_z ticks (pos 0) ≡ false → r ≤ nat_abs ticks - 1 → (clock +ℤ pos (suc r)) ≤ℤ moment
 enough clock moment (pos zero) r e past few = absurd (cc)
 enough clock moment (pos (suc d)) r e past few =

@@ -9,7 +9,7 @@ use Rattle.al_tasks.specs.WorldPrograms.{program_of}
 use Rattle.al_tasks.proofs.WorldRunLemmas.{laid_out, lines_rise}
 use Rattle.al_tasks.proofs.program.Program.new.Goals as goal
 
--- what is laid out is so with any code and units
+-- whether a program is laid out depends neither on its code nor on its units
 with_code : (p : Program) (code : List Step) (objects : List Region) (units : List ℕ) (words tasks : ℕ) (lines : List LineEntry) → objects ≡ p.objects → words ≡ p.words → tasks ≡ p.tasks → IsLaidOut p
     → IsLaidOut (record { code = code; objects = objects; units = units; words = words; tasks = tasks; lines = lines })
 with_code p code objects units words tasks lines e f g laid = rw (e, f, g) (record { regions = laid.regions; room = laid.room })

@@ -6,7 +6,7 @@ use Rattle.al_tasks.proofs.ActLemmas.{on_err}
 use Rattle.al_tasks.proofs.RunLemmas.{went_on, went_since, went_stopped, not_going}
 use Rattle.al_tasks.proofs.world.World.watched_run_on.Goals as goal
 
--- a part of a run, and one more
+-- a part of a run followed by another part
 more : (n a b since : ℕ) (w v : Partition) (last : ℕ) → ◌≡◌ {A = ℕ × Partition} (last, v) (part_of_run a n since w) → part_of_run b n last v ≡ part_of_run (a + b) n since w
 more n a b since w v last at =
     let both : Moment → ℕ × Partition = λ x. (x.0, record w { world = x.1 }) in
@@ -39,7 +39,7 @@ returns-clause-ok g c =
     let same : l.done ≡ c.args.steps = let a = c.loop-done-test.false in let b = l.invariant.within in omega arith in
     l.invariant.at ∙ ap (λ (k : ℕ). part_of_run k c.args.n c.args.since c.args.self.now) same
 
--- of any part of a run
+-- at most n instructions come after the last tick, at the end of any part of a run
 few_since : (n k since : ℕ) (w v : Partition) (last : ℕ) → ◌≡◌ {A = ℕ × Partition} (last, v) (part_of_run k n since w) → since ≤ n → last ≤ n
 few_since n k since w v last at h =
     let same : last ≡ (part_of_run k n since w).0 = ap (λ (y : ℕ × Partition). y.0) at in
