@@ -1,4 +1,4 @@
-// Whether two libraries have the same headers, and of which files the texts differ.
+// Whether two libraries have the same headers, and which files have different sources.
 ghost use Rattle.std.specs.Prelude.{◌≡◌, ◌∷◌, [], ℕ, false, List, IfOk, IfSome, IsTrue, OnOk, Some, map};
 ghost use Rattle.std.specs.Bool.{Decides};
 ghost use Rattle.std.specs.List.{Contains};
@@ -12,7 +12,7 @@ use al_base::{Name, NoMemory};
 use al_unit_graph::{Contents, Sources};
 use std::alloc::Global;
 
-/// The files of a library that may have another text than before.
+/// The files of a library whose sources may differ from those before.
 pub struct Edited {
     pub files: Vec<Name>,
 }
@@ -34,6 +34,10 @@ impl Edited {
     }
 
     /// One file.
+    ///
+    /// # Errors
+    ///
+    /// `NoMemory` if the allocator refuses memory.
     pub fn one(alloc: Global, file: &[u8]) -> Result<Edited, NoMemory>
         ensures { IfOk result (λ edited. edited.files.items ≡ file.now ∷ []) }
     {
@@ -56,7 +60,7 @@ fn is_among(files: &[Name], file: &[u8]) -> bool
 }
 
 impl Edited {
-    /// Whether a file may have another text.
+    /// Whether the source of a file may differ.
     pub fn has(&self, file: &[u8]) -> bool
         ensures { Decides result (may_differ self.now file.now) }
     {
@@ -71,14 +75,15 @@ fn are_same(a: &[&[u8]], b: &[&[u8]]) -> bool
     a == b
 }
 
+// Whether these are the same bytes.
 fn is_same_text(a: &[u8], b: &[u8]) -> bool
     ensures { IsTrue result → a.now ≡ b.now }
 {
     a == b
 }
 
-/// Whether a file that is read as the same but for places in both libraries, or is in neither, has the same text; none where it is read as
-/// something else.
+/// Whether a file has the same source in both libraries, if it is read as the same except for places in both, or is in neither. `None` if it is read
+/// as something else.
 fn kept_at(old: &Sources, new: &Sources, file: &[u8]) -> Option<bool>
     ensures { IfSome result (λ same. (contents_at old.now file.now ≡ contents_at new.now file.now) × (IsTrue same → text_in old.now file.now ≡ text_in new.now file.now)) }
 {
@@ -96,7 +101,7 @@ fn kept_at(old: &Sources, new: &Sources, file: &[u8]) -> Option<bool>
     }
 }
 
-/// Whether a file of a library is read as this, but for places.
+/// Whether a file of a library is read as this, except for places.
 pub fn is_read_as(old: &Sources, file: &[u8], contents: &Contents) -> bool
     ensures { IsTrue result → contents_at old.now file.now ≡ Some (unplaced_contents (contents_model contents.now)) }
 {
@@ -110,7 +115,7 @@ pub fn is_read_as(old: &Sources, file: &[u8], contents: &Contents) -> bool
 ///
 /// # Errors
 ///
-/// `NoMemory` where memory was wanted and not given.
+/// `NoMemory` if the allocator refuses memory.
 pub fn have_same_files(old: &Sources, new: &Sources) -> Result<bool, NoMemory>
     ensures { IfOk result (λ same. IsTrue same → keys_of old.now ≡ keys_of new.now) }
 {
@@ -119,11 +124,11 @@ pub fn have_same_files(old: &Sources, new: &Sources) -> Result<bool, NoMemory>
     Ok(are_same(files.as_slice(), others.as_slice()))
 }
 
-/// Notes a file, unless its text is the same.
+/// Adds a file to those whose sources may differ, unless its source is the same.
 ///
 /// # Errors
 ///
-/// `NoMemory` where memory was wanted and not given.
+/// `NoMemory` if the allocator refuses memory. `edited` is then as before.
 pub fn note(alloc: Global, file: &[u8], is_same: bool, edited: &mut Edited) -> Result<(), NoMemory>
     ensures kept { OnOk result ((f : List ℕ) → may_differ edited.old f → may_differ edited.new f) }
     ensures noted { OnOk result (is_same ≡ false → may_differ edited.new file.now) }
@@ -135,12 +140,12 @@ pub fn note(alloc: Global, file: &[u8], is_same: bool, edited: &mut Edited) -> R
     Ok(())
 }
 
-/// Where two libraries have files of the same names, and each is read as the same but for places in both, a unit with the same header, or no
-/// unit: of which files the texts may differ.
+/// The files whose sources may differ, if two libraries have files of the same names, and each is read as the same except for places in both: a unit
+/// with the same header, or no unit. `None` otherwise.
 ///
 /// # Errors
 ///
-/// `NoMemory` where memory was wanted and not given.
+/// `NoMemory` if the allocator refuses memory.
 pub fn edited_between(
     alloc: Global,
     old: &Sources,

@@ -1,23 +1,23 @@
-// What a build answers.
+// The answer of a build.
 ghost use Rattle.std.specs.Prelude.{◌≡◌};
 ghost use Rattle.al_engine.specs.Answers.{answer_of, built};
 
 use crate::{Compiled, Program};
 
-/// What a build answers, in short: what is wrong, what the partition lacks and what the image is are told by the library.
+/// The answer of a build, in short. The library has the details: the errors, what the partition lacks, and the image.
 #[derive(Clone, Copy)]
 pub enum BuildAnswer {
-    /// There is an image of so many bytes, whose partition has so many items.
+    /// There is an image of `bytes` bytes, whose partition has `items` library items.
     Built { items: usize, bytes: usize },
-    /// So many things are wrong with the files.
+    /// The files have so many errors.
     Faults(usize),
-    /// The partition lacks something, or there is no order of elaboration (ARM 10.2).
+    /// Something is missing in the partition, or there is no order of elaboration (ARM 10.2).
     Bind,
-    /// There is an order of elaboration. The image would pass a limit of images.
+    /// There is an order of elaboration, but the image would pass a limit of images.
     TooLarge,
 }
 
-/// What is answered where there is a program.
+/// The answer if there is a program.
 fn built(program: &Program) -> BuildAnswer
     ensures { result ≡ built program.now }
 {
@@ -27,7 +27,7 @@ fn built(program: &Program) -> BuildAnswer
     }
 }
 
-/// What is answered where compiling gave this. It takes no memory.
+/// The answer if compiling gave this. It takes no memory.
 pub fn answer_of(compiled: &Compiled) -> BuildAnswer
     ensures { result ≡ answer_of compiled.now }
 {

@@ -1,8 +1,8 @@
-//! Laws of compiling, as contracts of a function without code.
+//! A law of compiling, as the contract of a function without code.
 ghost use Rattle.al_engine.specs.Replies.{ReplyIsOne};
 
-/// The findings, what a partition lacks, the lines of a cycle, the order and the image go by the files, the outcomes of their units and
-/// the main unit.
+/// The errors, what a partition lacks, the lines of a cycle, the order and the image depend only on the files, the outcomes of their units and the
+/// main unit.
 pub fn reply_is_one()
     ensures { ReplyIsOne }
 {}

@@ -1,4 +1,4 @@
-// What is to be linked where one unit alone has another object than in the partition before.
+// What is to be linked if exactly one unit has another object than in the partition before.
 ghost use Rattle.std.specs.Prelude.{◌≡◌, true, false, [], map, slice_set, IfOk, IfSome, IsTrue};
 ghost use Rattle.al_base.specs.declared.unit_key.UnitKey.{UnitKey};
 ghost use Rattle.al_view.specs.Symbols.{same_unit};
@@ -23,7 +23,7 @@ use al_view::is_unit;
 use std::alloc::Global;
 use std::rc::Rc;
 
-/// Where a unit stands among these; none where it stands at no place, or at two.
+/// The place of a unit among these; `None` if it is at no place, or at two.
 fn place_of(objects: &[Rc<UnitObject>], unit: &Rc<UnitObject>) -> Option<usize>
     ensures { IfSome result (λ at. renewed (object_model unit.now) (map object_model objects.now) ≡ slice_set (map object_model objects.now) at (object_model unit.now)) }
 {
@@ -39,7 +39,7 @@ fn place_of(objects: &[Rc<UnitObject>], unit: &Rc<UnitObject>) -> Option<usize>
     found
 }
 
-/// Whether the last build found no fault in a unit.
+/// Whether the last build found no error in a unit.
 fn was_sound(entries: &KeptEntries, unit: &UnitKey) -> bool
     ensures { IsTrue result → is_sound (results_of (settled_at entries.now) unit.now) ≡ true }
 {
@@ -52,13 +52,13 @@ fn was_sound(entries: &KeptEntries, unit: &UnitKey) -> bool
     }
 }
 
-/// What is to be linked where nothing is wrong with the files, no file has another header, and one unit alone has another entry than in the
-/// last build, which gave an image: the objects of the other units are those of then. None where that build gave no image, or found a fault
-/// in the unit, or where the unit isn't one of those of the image.
+/// What is to be linked if the files have no error and the same headers as in the last build, which gave an image, and one unit has another entry
+/// than in that build: the other units keep their objects. `None` if that build gave no image or found an error in the unit, or if the unit isn't in
+/// the image.
 ///
 /// # Errors
 ///
-/// `NoMemory` where memory was wanted and not given.
+/// `NoMemory` if the allocator refuses memory.
 pub fn renewed(
     alloc: Global,
     sources: &Sources,

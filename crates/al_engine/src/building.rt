@@ -36,7 +36,7 @@ use al_unit_faults::obsolete;
 use std::alloc::Global;
 use std::rc::Rc;
 
-/// A build that is done but for its image, with the graph of its units and orders of elaboration.
+/// A build that is done except for its image, with the graph of its units and orders of elaboration.
 #[derive(Drop)]
 struct Begun {
     graph: Rc<UnitGraph>,
@@ -44,8 +44,9 @@ struct Begun {
     prepared: PreparedBuild,
 }
 
-/// Begins a build of files that are read. Of the last build, which gave this, it takes over the graph of the units and the order of
-/// elaboration, where the headers are known to be as they were; and where these alone were edited, no unit is looked at but those that stand after the first of them of which somebody read what it answers otherwise.
+/// Begins a build of files that are read. `gave` is what the last build gave. The graph of the units and the order of elaboration are taken over from
+/// it if the headers are known to be the same. If only `edited` files have other sources, the units are checked after the first of them that gives
+/// somebody another answer, and no other unit is looked at.
 fn begin<R: ReadFiles, C: UnitCheck, P: Answers>(
     alloc: Global,
     cache: &mut UnitCache<C>,
@@ -99,8 +100,8 @@ fn begin<R: ReadFiles, C: UnitCheck, P: Answers>(
     })
 }
 
-/// Builds a main unit of files that are read, over what is kept of the units and what the last build gave. It may be known of which files
-/// the texts are other ones than those of that build.
+/// Builds a main unit of files that are read, over the entries of units and what the last build gave. `edited` says, if it is known, which sources
+/// differ from those of that build.
 fn build_read<R: ReadFiles, C: UnitCheck, P: Answers>(
     alloc: Global,
     cache: &mut UnitCache<C>,
@@ -144,7 +145,11 @@ fn build_read<R: ReadFiles, C: UnitCheck, P: Answers>(
     })
 }
 
-/// The same; where memory is wanting, what is kept of the units is as before.
+/// Builds a main unit as [`build_read`] does. If the allocator refuses memory, the entries are as before.
+///
+/// # Errors
+///
+/// `NoMemory` if the allocator refuses memory.
 pub(crate) fn build_or_cancel<R: ReadFiles, C: UnitCheck, P: Answers>(
     alloc: Global,
     cache: &mut UnitCache<C>,
@@ -180,7 +185,11 @@ pub(crate) fn build_or_cancel<R: ReadFiles, C: UnitCheck, P: Answers>(
     }
 }
 
-/// The units of the files as they are that are obsolete since the last build, which gave this.
+/// The units of the present files that are obsolete since the last build.
+///
+/// # Errors
+///
+/// `NoMemory` if the allocator refuses memory.
 pub(crate) fn obsolete_since<R: ReadFiles>(
     alloc: Global,
     last: &LastBuild<R>,

@@ -1,4 +1,4 @@
-// The units of a library checked, over what is kept of them.
+// The check of a library's units, over their entries.
 ghost use Rattle.std.specs.Prelude.{◌≡◌, IfOk, IfSome, IsTrue, MatchOption, OnOk, length};
 ghost use Rattle.al_unit_faults.specs.Read.{AreHeaded, NameParentBodies};
 ghost use Rattle.al_query_store.specs.Keyed.{now_at, settled_at};
@@ -17,18 +17,17 @@ use al_query::Answers;
 use al_query_outcome::UnitCheck;
 use al_unit_graph::Sources;
 
-/// Checks the units of a library over what is kept of them: each unit that is reached and has no entry for its text, or one with an
-/// answer that differs now. The library's graph is given. Where units are given, these alone were edited, and no other one is looked at than
-/// those that stand after the first of them of which somebody read what it answers otherwise. What the last build settled stays as it is.
-/// - `updated`: which units were checked, and the entries of those that are reached: their outcomes are the one map that solves the
-///   library's equations, whatever was kept; which entries there will be; and how many stored answers were compared.
-/// - `renewed`: where it tells of a renewal, all units but the given ones have the entries that they had.
-/// - `counted`: so many checks were made.
+/// Checks the units of a library over their entries: each unit that is reached and has no entry for its source, or has one with an answer that
+/// differs now. `graph` is the library's graph. If `edited` has units, only these were edited; then the units are checked after the first of them
+/// that gives somebody another answer, and no other unit is looked at. The entries of the last build are unchanged.
+/// - `updated`: which units were checked, and the entries of those that are reached. Their outcomes are the only map that solves the library's
+///   equations, whatever the entries were before. It also says which entries there will be, and how many stored answers were compared.
+/// - `renewed`: if the result is a renewal, all units but the edited ones have the same entries as before.
+/// - `counted`: how many checks were made.
 ///
 /// # Errors
 ///
-/// `NoMemory` where memory was wanted and not given. The count of checks may have risen, and entries may have been made that are let
-/// go by `cancel`.
+/// `NoMemory` if the allocator refuses memory. The count of checks may have risen, and entries may have been made, which `cancel` drops.
 pub fn check_library<C: UnitCheck, P: Answers>(
     cache: &mut UnitCache<C>,
     predefined: &P,

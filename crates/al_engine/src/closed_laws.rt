@@ -6,7 +6,8 @@ use crate::link_closed_laws::all_is_defined;
 use crate::link_needed_laws::needed_are_placed;
 use al_engine_refresh::order_laws::order_is_for_builds;
 
-/// What a build plans to link is closed, whatever the checker and whatever was kept before: nothing is found wrong with the files, and the partition lacks nothing.
+/// If a build finds no error in the files, and the partition lacks nothing, then what it plans to link is closed, whatever the checker is and
+/// whatever entries there were before.
 pub fn partitions_are_closed()
     ensures { PartitionsAreClosed }
 {

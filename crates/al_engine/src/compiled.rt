@@ -1,4 +1,4 @@
-// What compiling gives.
+// The result of compiling.
 ghost use Rattle.std.specs.Prelude.{◌≡◌};
 ghost use Rattle.al_engine.specs.Programs.{bytes_in, image_in};
 
@@ -9,8 +9,8 @@ use al_link::Linked;
 use al_link_image::Image;
 use std::rc::Rc;
 
-/// The order in which the items of a partition are elaborated, its units with their objects, of which a later build uses again what is as
-/// it was, and its image, which a later build links again in its place.
+/// The order in which the items of a partition are elaborated; its units with their objects, which a later build uses again if they are unchanged;
+/// and its image, which a later build links again in its place.
 pub struct Program {
     pub order: Vec<UnitKey>,
     pub(crate) objects: Vec<Rc<UnitObject>>,
@@ -43,11 +43,11 @@ impl Program {
     }
 }
 
-/// What compiling gives.
+/// The result of compiling.
 pub enum Compiled {
-    /// What is wrong with the files, by file, place and number: one thing at least.
+    /// The errors in the files, by file, place and number: at least one.
     Faulty(Vec<Diagnostic>),
-    /// The partition lacks something, or there is no order of elaboration (ARM 10.2).
+    /// Something is missing in the partition, or there is no order of elaboration (ARM 10.2).
     Unbound(BindFault),
     /// The order of elaboration. The image would pass a limit of images.
     TooLarge(Vec<UnitKey>),

@@ -1,11 +1,11 @@
-// One unit that was edited.
+// A unit that was edited.
 ghost use Rattle.std.specs.Prelude.{◌≡◌, IfOk};
 
 use al_base::{NoMemory, UnitKey};
 use al_view::copied_unit;
 use std::alloc::Global;
 
-/// One unit of those whose texts alone were edited since the last build, and whether another one depends on it by itself.
+/// A unit whose source was edited since the last build, and whether another unit depends on it directly.
 pub struct EditedUnit {
     pub unit: UnitKey,
     pub is_base: bool,
@@ -21,7 +21,11 @@ impl Drop for EditedUnit {
 }
 
 impl EditedUnit {
-    /// The same once more.
+    /// A copy.
+    ///
+    /// # Errors
+    ///
+    /// `NoMemory` if the allocator refuses memory.
     pub(crate) fn copied(&self, alloc: Global) -> Result<EditedUnit, NoMemory>
         ensures { IfOk result (λ copy. copy ≡ self.now) }
     {

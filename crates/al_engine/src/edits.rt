@@ -1,4 +1,4 @@
-// Which units alone were edited since the last build.
+// The units that were edited since the last build, if nothing else was.
 ghost use Rattle.std.specs.Prelude.{◌≡◌, ℕ, [], List, false, None, IfOk, IfSome, IsTrue, map};
 ghost use Rattle.std.specs.List.{Contains};
 ghost use Rattle.al_base.specs.Batch.{Finding, finding_of};
@@ -31,7 +31,7 @@ use al_unit_faults::FileFaults;
 use al_unit_graph::{Header, Sources, kind_of};
 use std::alloc::Global;
 
-/// The unit with this header.
+/// The unit that has this header.
 fn unit_of(alloc: Global, header: &Header) -> Result<UnitKey, NoMemory>
     ensures { IfOk result (λ unit. unit ≡ unit_named (key_of_unit (header_model header.now))) }
 {
@@ -41,7 +41,7 @@ fn unit_of(alloc: Global, header: &Header) -> Result<UnitKey, NoMemory>
     })
 }
 
-/// The unit that a file holds.
+/// The unit in a file.
 fn unit_in(alloc: Global, sources: &Sources, file: &[u8]) -> Result<Option<UnitKey>, NoMemory>
     ensures { IfOk result (λ found. IfSome found (λ unit. Holds sources.now file.now unit)) }
 {
@@ -63,7 +63,7 @@ fn break_none(faults: &[FileFaults]) -> bool
     true
 }
 
-/// Whether it isn't told of a unit that it isn't reached.
+/// Whether none of the errors says that a unit wasn't reached.
 fn are_reached(found: &[Diagnostic]) -> bool
     ensures { IsTrue result → ((f : Finding) → Contains (map finding_of found.now) f → f.code ≡ 208 → ⊥) }
 {
@@ -75,14 +75,14 @@ fn are_reached(found: &[Diagnostic]) -> bool
     true
 }
 
-/// Whether a build of files with this graph, which found this, reached each unit.
+/// Whether a build of files with this graph, which found these errors, reached each unit.
 fn has_reached_all(graph: &UnitGraph, found: &[Diagnostic]) -> bool
     ensures { IsTrue result → HasReachedAll graph.now (map finding_of found.now) }
 {
     break_none(graph.faults.as_slice()) && are_reached(found)
 }
 
-/// Whether what was found is in the edited files alone.
+/// Whether all errors are in the edited files.
 fn are_in(found: &[Diagnostic], edited: &Edited) -> bool
     ensures { IsTrue result → AreIn edited.now (map finding_of found.now) }
 {
@@ -94,7 +94,7 @@ fn are_in(found: &[Diagnostic], edited: &Edited) -> bool
     true
 }
 
-/// The unit, and whether another one depends on it by itself, where it has an entry for another text than it has now.
+/// The unit, and whether another one depends on it directly, if its entry is for another source than its present one.
 fn edited_unit<C: UnitCheck>(
     cache: &UnitCache<C>,
     sources: &Sources,
@@ -112,7 +112,7 @@ fn edited_unit<C: UnitCheck>(
     Some(EditedUnit { unit, is_base })
 }
 
-/// The unit that a file holds, as [`edited_unit`] gives it; none where the file holds none.
+/// The unit in a file, as [`edited_unit`] gives it; `None` if the file has no unit.
 fn edited_in<C: UnitCheck>(
     alloc: Global,
     cache: &UnitCache<C>,
@@ -128,7 +128,7 @@ fn edited_in<C: UnitCheck>(
     }
 }
 
-/// The units that these files hold; none where one of them holds none, or one that has no entry for another text than it has now.
+/// The units in these files; `None` if a file has no unit, or a unit has no entry for another source than its present one.
 fn edited_units<C: UnitCheck>(
     alloc: Global,
     cache: &UnitCache<C>,
@@ -148,8 +148,12 @@ fn edited_units<C: UnitCheck>(
     Ok(Some(edits))
 }
 
-/// The units that alone were edited since the last build, and whether another one depends on each by itself; none where more was edited, or
-/// where that build didn't reach each unit. And whether it found nothing wrong but in these.
+/// The units that were edited since the last build, with whether another one depends on each directly; `None` if more was edited, or if that build
+/// didn't reach each unit. The second result says whether that build found errors only in the edited units.
+///
+/// # Errors
+///
+/// `NoMemory` if the allocator refuses memory.
 pub(crate) fn edited_now<R: ReadFiles, C: UnitCheck, P: Answers>(
     alloc: Global,
     cache: &UnitCache<C>,

@@ -30,20 +30,20 @@ use al_view::Seq;
 use std::alloc::Global;
 use std::marker::Model;
 
-/// A library of compilation units: its files, what is kept of its units, and its last build.
+/// A library of compilation units: its files, the entries of its units, and its last build.
 pub struct Engine<R: ReadFiles, C: UnitCheck, P: Answers> {
     alloc: Global,
     cache: UnitCache<C>,
     predefined: P,
     files: Files,
     last: Option<LastBuild<R>>,
-    /// What the last build gave.
+    /// The result of the last build.
     gave: Rebuilt,
     /// Whether a file was edited since the last build.
     is_edited: bool,
-    /// The file that alone was edited since, where it is known.
+    /// The only file that was edited since the last build, if that is known.
     alone: Option<Name>,
-    /// What the last build read of the files, once more.
+    /// A second copy of what the last build read of the files.
     spare: Option<R>,
 }
 
@@ -82,7 +82,7 @@ impl<R: ReadFiles, C: UnitCheck, P: Answers> Model for Engine<R, C, P> {
 }
 
 impl<R: ReadFiles, C: UnitCheck, P: Answers> Engine<R, C, P> {
-    /// A library with no file and no build. It takes no memory.
+    /// A library without files and builds. It takes no memory.
     pub fn new(alloc: Global, checker: C, predefined: P) -> Self
         requires reading { AreReadFor C.Text.header R.library }
         requires predefined { ArePredefined (P.table predefined) }
@@ -102,8 +102,8 @@ impl<R: ReadFiles, C: UnitCheck, P: Answers> Engine<R, C, P> {
         }
     }
 
-    /// What every library keeps, whatever happened: each entry the law of what was read, and the last build is what compiling its
-    /// files from nothing gives. It does nothing.
+    /// Recalls what holds of every library, whatever happened before: each entry keeps the reads law, and the last build is what compiling its files
+    /// from nothing gives.
     pub fn keeps(&self)
         ensures law { AllKeepLaw C.meaning C.Text.header (settled_at self.now.cache.store) }
         ensures built { IsBuiltRight C.meaning C.Text.header (P.table self.now.predefined) R.library self.now.built }
@@ -112,14 +112,23 @@ impl<R: ReadFiles, C: UnitCheck, P: Answers> Engine<R, C, P> {
         self.cache.keep_the_law();
     }
 
-    /// The refusal that a put of so many bytes under the name would meet.
+    /// Whether [`Self::put`] would refuse a source of `len` bytes under this name.
+    ///
+    /// # Errors
+    ///
+    /// The refusal.
     pub fn check_put(&self, name: &[u8], len: usize) -> Result<(), Refusal>
         ensures { AnswersRefusal result (put_refusal self.now.files name.now len) }
     {
         self.files.check_put(name, len)
     }
 
-    /// Sets the text of a file, a new one too.
+    /// Sets the source of a file, which is created if it isn't there.
+    ///
+    /// # Errors
+    ///
+    /// A refusal if the name or the length isn't allowed, there would be too many files, or the allocator refuses memory. The library is then as
+    /// before.
     pub fn put(&mut self, name: &[u8], text: Vec<u8>) -> Result<(), Refusal>
         ensures answer { AnswersFirst result (put_refusal self.old.files name.now (length text.items)) }
         ensures ok { OnOk result (self.new ≡ record self.old { files = with_file self.old.files name.now text.items }) }
@@ -136,7 +145,11 @@ impl<R: ReadFiles, C: UnitCheck, P: Answers> Engine<R, C, P> {
         }
     }
 
-    /// Takes a file away. It takes no memory.
+    /// Removes a file. It takes no memory.
+    ///
+    /// # Errors
+    ///
+    /// A refusal if there is no such file. The library is then as before.
     pub fn delete(&mut self, name: &[u8]) -> Result<(), Refusal>
         ensures answer { AnswersRefusal result (delete_refusal self.old.files name.now) }
         ensures ok { OnOk result (self.new ≡ record self.old { files = without_file self.old.files name.now }) }
@@ -153,6 +166,10 @@ impl<R: ReadFiles, C: UnitCheck, P: Answers> Engine<R, C, P> {
     }
 
     /// Gives a file another name, which no file has.
+    ///
+    /// # Errors
+    ///
+    /// A refusal if there is no such file, the new name is taken or isn't allowed, or the allocator refuses memory. The library is then as before.
     pub fn rename(&mut self, old: &[u8], new: &[u8]) -> Result<(), Refusal>
         ensures answer { AnswersFirst result (rename_refusal self.old.files old.now new.now) }
         ensures ok { OnOk result (self.new ≡ record self.old { files = with_renamed self.old.files old.now new.now }) }
@@ -181,7 +198,7 @@ impl<R: ReadFiles, C: UnitCheck, P: Answers> Engine<R, C, P> {
         }
     }
 
-    /// Makes the last build once more, where no file was edited since: no unit is checked, and what it gave stays. It takes no memory.
+    /// Repeats the last build, if no file was edited since: no unit is checked, and the result is unchanged. It takes no memory.
     fn repeat(&mut self)
         ensures files { (self.new.files ≡ self.old.files) × (self.new.predefined ≡ self.old.predefined) }
         ensures built { (main : List ℕ) → IsOfNow self.old.files main self.old.built → IsBuild C.meaning C.Text.header C.count (P.table self.old.predefined) R.library main self.old self.new }
@@ -192,7 +209,7 @@ impl<R: ReadFiles, C: UnitCheck, P: Answers> Engine<R, C, P> {
         self.gave.patched = 0;
     }
 
-    /// What the last build answered; that nothing is wrong before the first. It takes no memory.
+    /// The answer of the last build; no errors before the first build. It takes no memory.
     fn answer(&self) -> BuildAnswer
         ensures { IfSome self.now.built (λ b. result ≡ answer_of b.gave.compiled) }
     {
@@ -202,13 +219,13 @@ impl<R: ReadFiles, C: UnitCheck, P: Answers> Engine<R, C, P> {
         }
     }
 
-    /// Compiles the files, with this main unit in lower case, and checks again what an edit reached. The last build is this one then,
-    /// whether something is wrong with the files or not; what it gave is answered in short. Where no file was edited since the last build of
-    /// the same main unit, no file and no unit is looked at.
+    /// Compiles the files with this main unit, whose name is in lower case, and checks again what an edit reached. It is then the last build, whether
+    /// the files have errors or not. Gives its answer in short. If no file was edited since the last build of the same main unit, no file and no unit
+    /// is looked at.
     ///
     /// # Errors
     ///
-    /// `NoMemory` where memory was wanted and not given: the files, the last build and all entries are as before.
+    /// `NoMemory` if the allocator refuses memory: the files, the last build and all entries are then as before.
     pub fn build(&mut self, main: &[u8]) -> Result<BuildAnswer, NoMemory>
         ensures files { (self.new.files ≡ self.old.files) × (self.new.predefined ≡ self.old.predefined) }
         ensures ok { OnOk result (IsBuild C.meaning C.Text.header C.count (P.table self.old.predefined) R.library main.now self.old self.new) }
@@ -240,7 +257,7 @@ impl<R: ReadFiles, C: UnitCheck, P: Answers> Engine<R, C, P> {
         Ok(self.answer())
     }
 
-    /// The last build, if there was one: its main unit, and what compiling gave. It takes no memory.
+    /// The last build, if there was one: its main unit, and the result of compiling. It takes no memory.
     pub fn last(&self) -> Option<(&[u8], &Compiled)>
         ensures { option_map (λ b. (b.0.now, b.1.now)) result ≡ option_map gave_last self.now.built }
     {
@@ -250,7 +267,7 @@ impl<R: ReadFiles, C: UnitCheck, P: Answers> Engine<R, C, P> {
         }
     }
 
-    /// The units that the last build checked, by unit and kind; none before the first. It takes no memory.
+    /// The units that the last build checked, by unit and kind; none before the first build. It takes no memory.
     pub fn last_checked(&self) -> &[UnitKey]
         ensures { result.now ≡ last_checked self.now.built }
     {
@@ -260,7 +277,7 @@ impl<R: ReadFiles, C: UnitCheck, P: Answers> Engine<R, C, P> {
         }
     }
 
-    /// How many stored answers the last build compared with those of now, to 2^64-1; 0 before the first. It takes no memory.
+    /// How many stored answers the last build compared with those of now, to 2^64-1; 0 before the first build. It takes no memory.
     pub fn compared(&self) -> usize
         ensures { result ≡ compared_last self.now.built }
     {
@@ -270,9 +287,9 @@ impl<R: ReadFiles, C: UnitCheck, P: Answers> Engine<R, C, P> {
         }
     }
 
-    /// Of how many units the last build wrote code into the image of the build before: where that had one with the same main
-    /// subprogram and the same units, by their lengths, counts, symbols and lines, so many as have other code, else all. 0
-    /// where there was no image before or is none now, or nothing was edited. It takes no memory.
+    /// The number of units whose code the last build wrote into the image. If the build before had an image with the same main subprogram, and the
+    /// same units by their lengths, counts, symbols and lines, these are the units whose code differed; else all. 0 if there was no image before or
+    /// is none now, or if nothing was edited. It takes no memory.
     pub fn patched(&self) -> usize
         ensures { result ≡ patched_last self.now.built }
     {
@@ -289,11 +306,11 @@ impl<R: ReadFiles, C: UnitCheck, P: Answers> Engine<R, C, P> {
         self.cache.checks()
     }
 
-    /// What the last build found wrong, by file, place and number. It takes no memory.
+    /// The errors that the last build found, by file, place and number. It takes no memory.
     ///
     /// # Errors
     ///
-    /// `NotBuilt` where there was no build.
+    /// `NotBuilt` if there was no build.
     pub fn diagnostics(&self) -> Result<&[Diagnostic], Refusal>
         ensures { MatchResult result (λ found. found_last self.now.built ≡ Ok found.now) (λ e. found_last self.now.built ≡ Err e) }
     {
@@ -307,7 +324,7 @@ impl<R: ReadFiles, C: UnitCheck, P: Answers> Engine<R, C, P> {
     ///
     /// # Errors
     ///
-    /// `NotBuilt` where there was no build; `NoImage` where it gave no order.
+    /// `NotBuilt` if there was no build; `NoImage` if it gave no order.
     pub fn order(&self) -> Result<&[UnitKey], Refusal>
         ensures { MatchResult result (λ order. reported order_of self.now.built ≡ Ok order.now) (λ e. reported order_of self.now.built ≡ Err e) }
     {
@@ -324,7 +341,7 @@ impl<R: ReadFiles, C: UnitCheck, P: Answers> Engine<R, C, P> {
     ///
     /// # Errors
     ///
-    /// `NotBuilt` where there was no build; `NoImage` where it gave no image.
+    /// `NotBuilt` if there was no build; `NoImage` if it gave no image.
     pub fn image(&self) -> Result<&Program, Refusal>
         ensures { MatchResult result (λ program. reported program_of self.now.built ≡ Ok program.now) (λ e. reported program_of self.now.built ≡ Err e) }
     {
@@ -337,12 +354,11 @@ impl<R: ReadFiles, C: UnitCheck, P: Answers> Engine<R, C, P> {
         }
     }
 
-    /// Runs the image of the last build from its start, for at most so many events, with a tick of the clock after each `tick`
-    /// instructions.
+    /// Runs the image of the last build from its start, for at most `steps` events, with a tick of the clock after every `tick` instructions.
     ///
     /// # Errors
     ///
-    /// `NotBuilt` where there was no build; `NoImage` where it gave no image; else `NoMemory` where memory was wanted and not given.
+    /// `NotBuilt` if there was no build; `NoImage` if it gave no image; else `NoMemory` if the allocator refuses memory.
     pub fn run(&self, tick: u32, steps: u64) -> Result<RunReport, Refusal>
         ensures { AnswersRun result self.now.built tick steps }
     {
@@ -357,11 +373,11 @@ impl<R: ReadFiles, C: UnitCheck, P: Answers> Engine<R, C, P> {
         }
     }
 
-    /// The files as they are, by name, each with the unit that it holds, if it holds a sound one (ARM 10.1).
+    /// The present files by name, each with the unit in it, if that is sound (ARM 10.1).
     ///
     /// # Errors
     ///
-    /// `NoMemory` where memory was wanted and not given.
+    /// `NoMemory` if the allocator refuses memory.
     pub fn units(&self) -> Result<Vec<(Name, Option<UnitKey>)>, NoMemory>
         ensures { IfOk result (λ files. map unit_model files.items ≡ units_of (R.library self.now.files)) }
     {
@@ -374,7 +390,7 @@ impl<R: ReadFiles, C: UnitCheck, P: Answers> Engine<R, C, P> {
     ///
     /// # Errors
     ///
-    /// `NotBuilt` where there was no build; else `NoMemory` where memory was wanted and not given.
+    /// `NotBuilt` if there was no build; else `NoMemory` if the allocator refuses memory.
     pub fn obsolete(&self) -> Result<Vec<UnitKey>, Refusal>
         ensures answer { AnswersFirst result (obsolete_refusal self.now.built) }
         ensures ok { IfOk result (λ units. Some (map key_of units.items) ≡ obsolete_since R.library self.now.built self.now.files) }

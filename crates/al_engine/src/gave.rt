@@ -1,4 +1,4 @@
-// What is told of a build, by what it gave.
+// What is reported of a build, from its result.
 ghost use Rattle.std.specs.Prelude.{◌≡◌, [], IfOk, map, option_map};
 ghost use Rattle.std.specs.List.{fold};
 ghost use Rattle.std.specs.Option.{option_copied};
@@ -12,7 +12,7 @@ use al_base::{Diagnostic, NoMemory, UnitKey};
 use std::alloc::Global;
 use std::collections::BTreeSet;
 
-/// What is wrong with the files, by file, place and number; nothing where they were bound, or could not be. It takes no memory.
+/// The errors in the files, by file, place and number; none if the partition was bound, or couldn't be. It takes no memory.
 pub fn diagnostics_of(compiled: &Compiled) -> &[Diagnostic]
     ensures { result.now ≡ diagnostics_of compiled.now }
 {
@@ -24,7 +24,7 @@ pub fn diagnostics_of(compiled: &Compiled) -> &[Diagnostic]
     }
 }
 
-/// The order in which the partition is elaborated, where there is one. It takes no memory.
+/// The order in which the partition is elaborated, if there is one. It takes no memory.
 pub fn order_of(compiled: &Compiled) -> Option<&[UnitKey]>
     ensures { option_map (λ order. order.now) result ≡ order_of compiled.now }
 {
@@ -36,7 +36,7 @@ pub fn order_of(compiled: &Compiled) -> Option<&[UnitKey]>
     }
 }
 
-/// The program, where there is one. It takes no memory.
+/// The program, if there is one. It takes no memory.
 pub fn program_of(compiled: &Compiled) -> Option<&Program>
     ensures { option_copied result ≡ program_of compiled.now }
 {
@@ -48,18 +48,18 @@ pub fn program_of(compiled: &Compiled) -> Option<&Program>
     }
 }
 
-/// The files of which something is told.
+/// The files for which errors are reported.
 ///
 /// # Errors
 ///
-/// `NoMemory` where memory was wanted and not given.
+/// `NoMemory` if the allocator refuses memory.
 pub fn files_reported(alloc: Global, compiled: &Compiled) -> Result<BTreeSet<Vec<u8>>, NoMemory>
     ensures { IfOk result (λ files. names_model files.keys ≡ files_reported compiled.now) }
 {
     files_of(alloc, diagnostics_of(compiled))
 }
 
-/// The files of what was found.
+/// The files of these errors.
 fn files_of(alloc: Global, found: &[Diagnostic]) -> Result<BTreeSet<Vec<u8>>, NoMemory>
     ensures { IfOk result (λ files. names_model files.keys ≡ fold (insert_key name_cmp) [] (map (λ d. d.file) found.now)) }
 {

@@ -16,13 +16,13 @@ use al_unit_graph::Sources;
 use al_view::copied_unit;
 use std::alloc::Global;
 
-/// What a build needs to know of a library's units as a graph.
+/// What a build needs to know of the graph of a library's units.
 pub struct UnitGraph {
-    /// What is wrong with each file as a unit among the others.
+    /// The rules of the graph that each file breaks.
     pub faults: Vec<FileFaults>,
     /// The units that break no rule of the graph, each after all on which it depends.
     pub order: Vec<UnitKey>,
-    /// The units on which one of these depends by itself.
+    /// The units on which one of these depends directly.
     pub bases: UnitMap<()>,
 }
 
@@ -45,7 +45,7 @@ fn add_base(alloc: Global, base: &UnitKey, bases: &mut UnitMap<()>) -> Result<()
     Ok(())
 }
 
-/// Adds the units on which a unit depends by itself.
+/// Adds the units on which a unit depends directly.
 fn add_bases(
     alloc: Global,
     sources: &Sources,
@@ -62,7 +62,7 @@ fn add_bases(
     Ok(())
 }
 
-/// The units on which one of these depends by itself.
+/// The units on which one of these depends directly.
 fn bases_of(alloc: Global, sources: &Sources, units: &[UnitKey]) -> Result<UnitMap<()>, NoMemory>
     ensures { IfOk result (λ bases. (w d : Key) → Contains (map key_of units.now) w → Contains (direct sources.now w) d → is_some (at_unit bases (unit_of d)) ≡ true) }
 {
@@ -78,7 +78,7 @@ impl UnitGraph {
     ///
     /// # Errors
     ///
-    /// `NoMemory` where memory was wanted and not given.
+    /// `NoMemory` if the allocator refuses memory.
     pub fn of(alloc: Global, sources: &Sources) -> Result<Self, NoMemory>
         ensures { IfOk result (IsGraphOf sources.now) }
     {

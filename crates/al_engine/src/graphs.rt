@@ -1,4 +1,4 @@
-// What of the last build's graph a build can take over.
+// What a build can take over of the last build's graph.
 ghost use Rattle.std.specs.Prelude.{◌≡◌, ℕ, List, Some, IfOk, IfSome, IsTrue, MatchOption, map};
 ghost use Rattle.std.specs.List.{Contains};
 ghost use Rattle.al_base.specs.Batch.{Finding, key_of};
@@ -20,7 +20,7 @@ use al_unit_faults::FileFaults;
 use std::alloc::Global;
 use std::rc::Rc;
 
-/// Whether what is wrong with a file as a unit stays where these were edited: nothing is, or its text is as it was.
+/// Whether the errors of a file as a unit among others are the same after these edits: there are none, or its source is unchanged.
 fn is_kept(faults: &FileFaults, edited: &Edited) -> bool
     ensures { IsTrue result → IsKeptFault edited.now (file_faults_model faults.now) }
 {
@@ -39,8 +39,8 @@ fn are_kept(faults: &[FileFaults], edited: &Edited) -> bool
     true
 }
 
-/// The last build, where there was one, of whose files it is known which may have other texts now; and these. None where one of these files
-/// breaks a rule of the graph: what is told of it has another place.
+/// The last build and the edited files, if there was a build and it is known which files may have other sources. `None` if one of these files breaks
+/// a rule of the graph: the place of that error may be another one.
 fn with_last<'a, R: ReadFiles>(
     read: &R,
     last: &'a Option<LastBuild<R>>,
@@ -64,8 +64,8 @@ fn with_last<'a, R: ReadFiles>(
     }
 }
 
-/// The last build, where its files are known to be those that were read now, each read as the same but for places, and none that was edited
-/// breaks a rule of the graph; and which of them may have other texts.
+/// The last build, if its files are known to be those that were read now, each read as the same except for places, and no edited one breaks a rule of
+/// the graph. The second result says which files may have other sources.
 pub(crate) fn alike<'a, R: ReadFiles>(
     alloc: Global,
     read: &R,
@@ -84,7 +84,11 @@ pub(crate) fn alike<'a, R: ReadFiles>(
     }
 }
 
-/// The graph of the files that were read: that of a build whose files have the same one, where there is one.
+/// The graph of the files that were read. It is shared with a build whose files have the same graph, if there is one.
+///
+/// # Errors
+///
+/// `NoMemory` if the allocator refuses memory.
 pub(crate) fn graph_now<R: ReadFiles>(
     alloc: Global,
     read: &R,
@@ -103,7 +107,7 @@ pub(crate) fn graph_now<R: ReadFiles>(
     }
 }
 
-/// The order of elaboration for this main unit that is known of a build whose files have the same graph.
+/// The order of elaboration for this main unit, if a build whose files have the same graph knows it.
 pub(crate) fn order_now<'a, R: ReadFiles>(
     main: &[u8],
     read: &R,
@@ -130,7 +134,7 @@ pub(crate) fn is_same_main<R>(main: &[u8], alike: Option<&LastBuild<R>>) -> bool
     }
 }
 
-/// The orders that are known of a build whose files have the same graph; none where there is no such build.
+/// The orders that a build whose files have the same graph knows; none if there is no such build.
 fn known_orders<R: ReadFiles>(
     alloc: Global,
     read: &R,
@@ -148,7 +152,11 @@ fn known_orders<R: ReadFiles>(
     Ok(orders)
 }
 
-/// The orders that are known of a build whose files have the same graph, with that of a partition that is to be linked.
+/// The orders that a build whose files have the same graph knows, with that of a partition that is to be linked.
+///
+/// # Errors
+///
+/// `NoMemory` if the allocator refuses memory.
 pub(crate) fn orders_now<R: ReadFiles>(
     alloc: Global,
     main: &[u8],

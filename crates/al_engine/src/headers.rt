@@ -1,4 +1,4 @@
-// Whether two headers say the same, but for places.
+// Whether two headers are the same except for places.
 ghost use Rattle.std.specs.Prelude.{◌≡◌, IsTrue, map};
 ghost use Rattle.std.specs.Option.{option_map};
 ghost use Rattle.al_unit_graph.specs.Views.{contents_model, header_model, mention_model};
@@ -8,6 +8,7 @@ ghost use Rattle.al_engine.specs.Headers.{HaveSameLists, HaveSameNames, HaveSame
 use al_base::Name;
 use al_unit_graph::{Contents, Header, Mention};
 
+// Whether two names are the same.
 fn same_name(a: &Name, b: &Name) -> bool
     ensures { IsTrue result → a.now ≡ b.now }
 {
@@ -48,7 +49,7 @@ fn same_parent_body(a: &Option<Mention>, b: &Option<Mention>) -> bool
     }
 }
 
-/// Whether the units have the same name, with the same parent body.
+/// Whether the units have the same name and the same parent body.
 fn have_same_names(a: &Header, b: &Header) -> bool
     ensures { IsTrue result → HaveSameNames (unplaced (header_model a.now)) (unplaced (header_model b.now)) }
 {
@@ -57,7 +58,7 @@ fn have_same_names(a: &Header, b: &Header) -> bool
         && same_parent_body(&a.parent_body, &b.parent_body)
 }
 
-/// Whether the units are of the same form, with the same properties.
+/// Whether the units have the same form and the same properties.
 fn have_same_properties(a: &Header, b: &Header) -> bool
     ensures { IsTrue result → HaveSameProperties (unplaced (header_model a.now)) (unplaced (header_model b.now)) }
 {
@@ -78,13 +79,14 @@ fn have_same_lists(a: &Header, b: &Header) -> bool
         && same_names(a.elaborate_all.as_slice(), b.elaborate_all.as_slice())
 }
 
+// Whether two headers are the same except for places.
 fn same_header(a: &Header, b: &Header) -> bool
     ensures { IsTrue result → unplaced (header_model a.now) ≡ unplaced (header_model b.now) }
 {
     have_same_names(a, b) && have_same_properties(a, b) && have_same_lists(a, b)
 }
 
-/// Whether two texts are read as the same but for places: a unit with the same header, or no unit.
+/// Whether two sources are read as the same except for places: a unit with the same header, or no unit.
 pub(crate) fn same_contents(a: &Contents, b: &Contents) -> bool
     ensures { IsTrue result → unplaced_contents (contents_model a.now) ≡ unplaced_contents (contents_model b.now) }
 {

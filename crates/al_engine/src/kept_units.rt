@@ -20,7 +20,7 @@ use al_unit_graph::Sources;
 use std::alloc::Global;
 use std::marker::Model;
 
-/// A checker, and an entry of each unit that it checked and that is still there. Every entry keeps the reads law, whatever happened.
+/// A checker, and an entry of each unit that it checked and that is still kept. Every entry keeps the reads law, whatever happened.
 pub struct UnitCache<C: UnitCheck> {
     alloc: Global,
     checker: C,
@@ -67,7 +67,7 @@ impl<C: UnitCheck> UnitCache<C> {
         }
     }
 
-    /// Every entry keeps the reads law. It does nothing.
+    /// Recalls that every entry keeps the reads law.
     pub fn keep_the_law(&self)
         ensures { AllKeepLaw C.meaning C.Text.header (settled_at self.now.store) }
     {
@@ -81,7 +81,7 @@ impl<C: UnitCheck> UnitCache<C> {
         self.checker.checks()
     }
 
-    /// Whether a unit has an entry for another text than its file has.
+    /// Whether a unit has an entry for another source than its file has.
     pub fn is_edited(&self, sources: &Sources, unit: &UnitKey) -> bool
         ensures { IsTrue result → (e : Stored) × (settled_at self.now.store unit.now ≡ Some e) × (e.text ≡ text_of sources.now unit.now → ⊥) }
     {
@@ -91,23 +91,22 @@ impl<C: UnitCheck> UnitCache<C> {
         }
     }
 
-    /// The entries, with those that were made since the last build.
+    /// The entries, including those made since the last build.
     pub fn entries(&self) -> &KeptEntries
         ensures { result.now ≡ self.now.store }
     {
         &self.entries
     }
 
-    /// Brings the units of a library up to date, in an order of dependence. Where units are given, these alone were edited, and no other
-    /// unit is looked at than those that stand after the first of them of which somebody read what it answers otherwise. What the last build
-    /// settled stays as it is, until [`Self::settle`] or [`Self::cancel`].
-    /// - `updated`: which units were checked, which entries there are and will be, how many stored answers were compared.
-    /// - `renewed`: where it tells of a renewal, all other units have the entries that they had.
+    /// Brings the units of a library up to date, in an order of dependence. If `edited` has units, only these were edited; then the units are checked
+    /// after the first of them that gives somebody another answer, and no other unit is looked at. The entries of the last build are unchanged until
+    /// [`Self::settle`] or [`Self::cancel`].
+    /// - `updated`: which units were checked, which entries there are and will be, and how many stored answers were compared.
+    /// - `renewed`: if the result is a renewal, all other units have the same entries as before.
     ///
     /// # Errors
     ///
-    /// `NoMemory` where memory was wanted and not given. The count of checks may have risen, and entries may have been made that
-    /// [`Self::cancel`] lets go.
+    /// `NoMemory` if the allocator refuses memory. The count of checks may have risen, and entries may have been made, which [`Self::cancel`] drops.
     pub fn recheck<P: Answers>(
         &mut self,
         predefined: &P,
@@ -135,7 +134,8 @@ impl<C: UnitCheck> UnitCache<C> {
         )
     }
 
-    /// A build has answered: what it made is settled, and what it reached is what the last build reached from here on. It takes no memory.
+    /// Settles a build that gave an answer: its entries are those of the last build from here on, and so are the units that it reached. It takes no
+    /// memory.
     pub fn settle(&mut self)
         requires { AllKeepLaw C.meaning C.Text.header (will_be self.old.store) }
         ensures checker { self.new.checker ≡ self.old.checker }
@@ -144,7 +144,7 @@ impl<C: UnitCheck> UnitCache<C> {
         self.entries.settle();
     }
 
-    /// A build found no memory: what it made is let go, and all is as the last build left it. It takes no memory.
+    /// Cancels a build that ran out of memory: its entries are dropped, and everything is as the last build left it. It takes no memory.
     pub fn cancel(&mut self)
         ensures checker { self.new.checker ≡ self.old.checker }
         ensures cancelled { (u : UnitKey) → state self.new.store u ≡ left_by_last (state self.old.store u) }

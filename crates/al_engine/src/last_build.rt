@@ -6,12 +6,12 @@ use crate::orders::KnownOrder;
 use al_base::Name;
 use std::rc::Rc;
 
-/// The files that a build found, with what they are read as and the graph of their units, and its main unit.
+/// The files of a build, as they are read; the graph of their units; and the main unit.
 pub(crate) struct LastBuild<R> {
     pub read: R,
     pub graph: Rc<UnitGraph>,
     pub main: Name,
-    /// Orders of elaboration of these files, of this main unit and of others, the latest last.
+    /// Orders of elaboration of these files, for this main unit and for others, the latest last.
     pub orders: Vec<Rc<KnownOrder>>,
 }
 
@@ -27,7 +27,7 @@ impl<R: Drop> Drop for LastBuild<R> {
 }
 
 impl<R: Drop> LastBuild<R> {
-    /// What was read of the files.
+    /// The files, as they are read.
     pub(crate) fn into_read(self) -> R
         ensures { result ≡ self.read }
     {

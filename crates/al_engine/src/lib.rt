@@ -1,5 +1,21 @@
-//! A library of compilation units, for every checker of units and every way of reading files: its files are edited and built again
-//! and again; a build checks again only what an edit reaches, and links what it gives.
+//! A library of compilation units: its files are edited and built again and again. A build checks again only what an edit reaches, and links what the
+//! checks give. All of this is for every checker of units (`UnitCheck`) and every way of reading files ([`ReadFiles`]).
+//!
+//! - An *entry* of a unit has the source that was checked, the look-ups of the check with their *answers*, and the result. The *reads law* says that
+//!   the check gives this result whenever the look-ups have these answers. A *mark* at a stored answer says that it isn't the answer now.
+//! - A unit is *sound* if no error was found in it. A build *reaches* a unit that breaks no rule of the graph and depends only on sound units. A unit
+//!   *moved* if the build made an entry of it, or if it is reached now and wasn't before, or the other way round.
+//! - A build ends by *settling* its entries; then they are those of the last build. It can be *cancelled* before, and then everything is as the last
+//!   build left it.
+//!
+//! The modules, from files to the library:
+//! - `read_files`, `reading`, `alike` and `headers`: files as a build reads them, and which of them have another source than in the last build.
+//! - `graph` and `graphs`: the graph of the units, and what is taken over of the last build's graph. `edits` and `edited`: which units alone were
+//!   edited.
+//! - `kept_units`, `checking`, `rechecking`, `renewing`, `walking` and `sorted`: the entries, and which units a build checks.
+//! - `planning`, `planned`, `batch_renewing`, `orders`, `placing`, `objects` and `names`: what is to be linked. `linking` and `compiled`: the image.
+//! - `rebuilding`, `building` and `last_build`: a whole build. `engine`, `gave` and `answer`: the library and what it reports.
+//! - `laws` and the modules whose names end in `_laws`: what is proved of all builds.
 #![tactic(auto)]
 
 mod alike;

@@ -11,12 +11,13 @@ ghost use Rattle.al_engine.specs.Completing.{AreAllSound, KeepParts, ShowNoCode}
 
 use al_query_outcome::laws::all_defined;
 
-/// Where a partition lacks no body and no subunit, and no unit has a fault, the needed bodies and subunits complete what is left to them.
+/// If a partition lacks no body and no subunit, and no unit has an error, the needed bodies and subunits complete all that is left to them.
 pub fn completes()
     ensures { (meaning : Meaning) (s : Setting) → IsSetting s → (main : List ℕ) (f : UnitKey → Option Outcome) → Solves meaning s f → AreAllSound s f → KeepParts s f → ShowNoCode s → IsComplete s.files main → Completes s main f }
 {}
 
-/// So the linker's condition holds: a needed unit defines the code of the main subprogram, and all that the code of a needed unit uses.
+/// The linker's condition holds: a needed unit defines the code of the main subprogram, and needed units define all that the code of needed units
+/// uses.
 pub fn all_is_defined()
     ensures { (meaning : Meaning) (s : Setting) → IsSetting s → (keeps : KeepsReads meaning s.header_of) (main : List ℕ) (f : UnitKey → Option Outcome) → Solves meaning s f → ((u : UnitKey) (i : UnitInterface) (tree : UnitTree) → Has f u i tree → KeepsSymbols u (keeps u (table s f)).log i tree) → AreAllSound s f → KeepParts s f → ShowNoCode s → IsComplete s.files main → IsClosed s main f }
 {

@@ -23,7 +23,7 @@ use al_view::LinkSymbol;
 use std::alloc::Global;
 use std::rc::Rc;
 
-/// Whether an image can name the units.
+/// Whether an image can have the names of the units.
 fn are_named(objects: &[Rc<UnitObject>]) -> bool
     ensures { result ≡ list_all (λ u. is_unit_name u.0.name) (map object_model objects.now) }
 {
@@ -35,7 +35,7 @@ fn are_named(objects: &[Rc<UnitObject>]) -> bool
     true
 }
 
-/// The units with their objects, as the linker takes them.
+/// The units with their objects, in the form that the linker takes.
 fn left<'a>(alloc: Global, objects: &'a [Rc<UnitObject>]) -> Result<Vec<CompiledUnit<'a>>, NoMemory>
     ensures { IfOk result (λ left. map left_model left.items ≡ map object_model objects.now) }
 {
@@ -49,7 +49,7 @@ fn left<'a>(alloc: Global, objects: &'a [Rc<UnitObject>]) -> Result<Vec<Compiled
     Ok(left)
 }
 
-/// The image of units that an image can name, with this main subprogram; none where it would pass a limit.
+/// The image of units whose names an image can have, with this main subprogram; `None` if it would pass a limit.
 fn linked_anew(
     alloc: Global,
     main: &LinkSymbol,
@@ -68,8 +68,8 @@ fn linked_anew(
     }
 }
 
-/// Links units that an image can name in the place of others: whether that passes no limit. The image comes last of all that takes
-/// memory, and where it finds none, all is as before.
+/// Links units, whose names an image can have, in the place of others. Gives whether the image passes no limit. The image is the last thing that
+/// takes memory; if the allocator refuses it, everything is as before.
 fn linked_again(
     alloc: Global,
     linked: &mut Linked,
@@ -90,7 +90,7 @@ fn linked_again(
     }
 }
 
-/// The program of a partition where compiling gave none before.
+/// The program of a partition, if compiling gave none before.
 fn program_anew(
     alloc: Global,
     partition: Partition,
@@ -118,7 +118,7 @@ fn program_anew(
     Ok(0)
 }
 
-/// The program of a partition whose units an image can name, in the place of that of before, if compiling gave one.
+/// The program of a partition whose units an image can name. It is linked in the place of the one before, if compiling gave one.
 fn program_of(
     alloc: Global,
     partition: Partition,
@@ -145,7 +145,7 @@ fn program_of(
     Ok(0)
 }
 
-/// The program of a partition, or its order alone where its image would pass a limit.
+/// The program of a partition, or only its order if the image would pass a limit.
 fn link_partition(
     alloc: Global,
     partition: Partition,
@@ -173,7 +173,7 @@ fn put(objects: &mut Vec<Rc<UnitObject>>, at: usize, object: Rc<UnitObject>)
     }
 }
 
-/// These units with their objects, one of which has another object now. The others are shared.
+/// These units with their objects, one of which is replaced. The others are shared.
 fn objects_with(
     alloc: Global,
     before: &[Rc<UnitObject>],
@@ -190,8 +190,8 @@ fn objects_with(
     Ok(objects)
 }
 
-/// Links a unit's object in the place of the one before, if this is as that one but for its code, and the main subprogram is the same:
-/// whether it was so; else nothing is done.
+/// Links a unit's object in the place of the one before, if the main subprogram is the same and the objects differ only in their code. Gives whether
+/// that was so; if not, nothing is done.
 fn exchanged(linked: &mut Linked, main: &LinkSymbol, at: usize, unit: &Rc<UnitObject>) -> bool
     ensures exchanged { IsTrue result → IsExchanged main.now at (object_model unit.now) linked.old linked.new }
     ensures otherwise { result ≡ false → linked.new ≡ linked.old }
@@ -202,7 +202,7 @@ fn exchanged(linked: &mut Linked, main: &LinkSymbol, at: usize, unit: &Rc<UnitOb
     }
 }
 
-/// Links units in the place of others, and keeps their objects: whether an image can name them, and that passes no limit.
+/// Links units in the place of others, and keeps their objects. Gives whether an image can have their names, and the image passes no limit.
 fn renewed_again(
     alloc: Global,
     program: &mut Program,
@@ -226,8 +226,8 @@ fn renewed_again(
     Ok(true)
 }
 
-/// The program of a partition in the place of that of before, of which one unit has another object now; or its order alone where its image
-/// would pass a limit. Nothing is done where compiling gave no program before.
+/// The program of a partition in the place of the one before, from which it differs in one unit's object; or only its order if the image would pass a
+/// limit. Nothing is done if compiling gave no program before.
 fn link_renewed(alloc: Global, renewal: Renewal, compiled: &mut Compiled) -> Result<usize, NoMemory>
     requires { IsClosedRenewal compiled.old renewal }
     ensures linked { OnOk result (IsLinkedOver renewal compiled.old compiled.new) }
@@ -252,14 +252,14 @@ fn link_renewed(alloc: Global, renewal: Renewal, compiled: &mut Compiled) -> Res
     Ok(0)
 }
 
-/// Makes of what compiling gave before what it gives now. Where it gave an image and gives one, the image is linked again in its place:
-/// where the units and their lengths, counts, symbols and lines are as before, only what differs is written. Of how many units
-/// code was written: so many as differ where all is as before but for bytes, else all; 0 where there was no image or is none. What is
-/// to be linked defines the main subprogram's code and all that its units use.
+/// Replaces the result of compiling by that of the plan. If there was an image and is one, it is linked again in its place: if the units are as
+/// before in their lengths, counts, symbols and lines, only what differs is written. Gives the number of units whose code was written: those that
+/// differ if all is as before except for bytes, else all; 0 if there was no image or is none. What is to be linked defines the main subprogram's code
+/// and all that its units use.
 ///
 /// # Errors
 ///
-/// `NoMemory` where memory was wanted and not given: all is as before.
+/// `NoMemory` if the allocator refuses memory: everything is then as before.
 pub fn link(alloc: Global, planned: Planned, compiled: &mut Compiled) -> Result<usize, NoMemory>
     requires closed { IsClosedPlan compiled.old planned }
     ensures batch { OnOk result ((lib : Library) (f : UnitKey → Option Outcome) (main : List ℕ) → IsPlanned lib f main compiled.old planned → IsBatch lib f main compiled.new) }

@@ -1,4 +1,4 @@
-// Names that images can hold, and the name of a main subprogram's code.
+// Names that images can have, and the name of a main subprogram's code.
 ghost use Rattle.std.specs.Prelude.{◌≡◌, IfOk, unwrap_or};
 ghost use Rattle.std.specs.List.{list_all};
 ghost use Rattle.al_link_image.specs.Images.{is_name_byte};
@@ -14,27 +14,28 @@ use al_unit_graph::Sources;
 use al_view::{LinkKind, LinkSymbol, Symbol};
 use std::alloc::Global;
 
-/// A letter in lower case, a digit, an underline or a dot.
+/// Whether a byte is a letter in lower case, a digit, an underline or a dot.
 fn is_name_byte(byte: u8) -> bool
     ensures { result ≡ is_name_byte byte }
 {
     (byte >= b'a' && byte <= b'z') || (byte >= b'0' && byte <= b'9') || byte == b'_' || byte == b'.'
 }
 
+// Whether all bytes of a name are such bytes.
 fn is_of_name_bytes(name: &[u8]) -> bool
     ensures { result ≡ list_all is_name_byte name.now }
 {
     name.iter().all(|byte| is_name_byte(*byte))
 }
 
-/// Whether an image can hold the name of a unit.
+/// Whether an image can have the name of a unit.
 pub(crate) fn is_unit_name(name: &[u8]) -> bool
     ensures { result ≡ is_unit_name name.now }
 {
     0 < name.len() && (name.len() <= 255 && is_of_name_bytes(name))
 }
 
-/// Which part of the unit declares it; its body where nothing does.
+/// The kind of the unit that declares a subprogram: its declaration, or its body if there is no declaration.
 fn declaring(sources: &Sources, name: &[u8]) -> UnitKind
     ensures { (name.now, result) ≡ unwrap_or (declaration_of sources.now name.now) (name.now, Body) }
 {
@@ -61,6 +62,10 @@ fn own_code(alloc: Global, unit: UnitKey) -> Result<LinkSymbol, NoMemory>
 }
 
 /// The symbol of a main subprogram's code.
+///
+/// # Errors
+///
+/// `NoMemory` if the allocator refuses memory.
 pub(crate) fn main_symbol(
     alloc: Global,
     sources: &Sources,

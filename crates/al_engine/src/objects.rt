@@ -1,4 +1,4 @@
-// The objects of units whose checks found no fault.
+// The objects of units in which no error was found.
 ghost use Rattle.std.specs.Prelude.{◌≡◌, ◌++◌, ◌∷◌, [], map, Some, IfOk, MatchOption, OnOk};
 ghost use Rattle.al_query_store.specs.Keyed.{now_at};
 ghost use Rattle.al_query_outcome.specs.ReadsLaw.{HasCode};
@@ -28,7 +28,7 @@ impl Drop for UnitObject {
     }
 }
 
-/// A unit with the object that is made of its labelled tree, if its check found no fault. It can be shared.
+/// A unit with the object that is made from its labelled tree, if its check found no error. It can be shared.
 fn object_in(
     alloc: Global,
     key: &UnitKey,
@@ -47,7 +47,11 @@ fn object_in(
     }
 }
 
-/// A unit with its object, if it has an entry of which code can be made.
+/// A unit with its object, if it has an entry from which code can be made.
+///
+/// # Errors
+///
+/// `NoMemory` if the allocator refuses memory.
 pub(crate) fn object_at(
     alloc: Global,
     entries: &KeptEntries,
@@ -62,7 +66,7 @@ pub(crate) fn object_at(
     }
 }
 
-/// Adds the object of a unit, where it has an entry of which code can be made.
+/// Adds the object of a unit, if it has an entry from which code can be made.
 fn add_object(
     alloc: Global,
     entries: &KeptEntries,
@@ -82,6 +86,10 @@ fn add_object(
 }
 
 /// The objects of these units, in their order.
+///
+/// # Errors
+///
+/// `NoMemory` if the allocator refuses memory.
 pub(crate) fn objects_at(
     alloc: Global,
     entries: &KeptEntries,

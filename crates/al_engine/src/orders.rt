@@ -1,4 +1,4 @@
-// Orders of elaboration that are known of files.
+// The orders of elaboration that a library keeps for its files.
 ghost use Rattle.std.specs.Prelude.{◌≡◌, ◌∷◌, ◌++◌, [], IfOk, IfSome, OnOk, map};
 ghost use Rattle.al_base.specs.Batch.{key_of};
 ghost use Rattle.al_bind.specs.Binding.{IsElaboration};
@@ -11,7 +11,7 @@ use al_base::{Name, NoMemory, UnitKey};
 use std::alloc::Global;
 use std::rc::Rc;
 
-/// Of so many main units at most orders are known.
+/// The largest number of main units for which orders are kept.
 const MOST_ORDERS: usize = 8;
 
 /// The order of elaboration of a main unit's partition.
@@ -26,7 +26,7 @@ impl Drop for KnownOrder {
     }
 }
 
-/// The order that is known for this main unit.
+/// The order for this main unit, if it is kept.
 pub(crate) fn order_of<'a>(orders: &'a [Rc<KnownOrder>], main: &[u8]) -> Option<&'a [UnitKey]>
     ensures { IfSome result (λ order. (lib : Library) → AreElaborations lib (map (λ o. o.value) orders.now) → IsElaboration lib main.now (map key_of order.now)) }
 {
@@ -38,7 +38,11 @@ pub(crate) fn order_of<'a>(orders: &'a [Rc<KnownOrder>], main: &[u8]) -> Option<
     None
 }
 
-/// These orders once more, or none where they are too many. They are shared.
+/// These orders, shared; none if there are too many.
+///
+/// # Errors
+///
+/// `NoMemory` if the allocator refuses memory.
 pub(crate) fn shared_orders(
     alloc: Global,
     orders: &[Rc<KnownOrder>],
@@ -56,6 +60,10 @@ pub(crate) fn shared_orders(
 }
 
 /// Adds the order of a partition that is to be linked.
+///
+/// # Errors
+///
+/// `NoMemory` if the allocator refuses memory.
 pub(crate) fn add_order(
     alloc: Global,
     main: &[u8],

@@ -8,7 +8,7 @@ use al_bind::parts_of;
 use al_unit_graph::{KeySet, Sources};
 use std::alloc::Global;
 
-/// The same key.
+/// A copy of a key.
 fn copy_of(alloc: Global, key: &UnitKey) -> Result<UnitKey, NoMemory>
     ensures { IfOk result (λ copy. key_of copy ≡ key_of key.now) }
 {
@@ -18,7 +18,7 @@ fn copy_of(alloc: Global, key: &UnitKey) -> Result<UnitKey, NoMemory>
     })
 }
 
-/// Adds a key, where it is a subunit's.
+/// Adds a key if it is a subunit's.
 fn add_subunit(alloc: Global, key: &UnitKey, found: &mut KeySet) -> Result<(), NoMemory>
     ensures { OnOk result (found.new ≡ with_subunit found.old (key_of key.now)) }
 {
@@ -73,8 +73,12 @@ fn add_item(
     add_keys(alloc, subunits.as_slice(), placed)
 }
 
-/// The units of a partition in the order in which they stand in its image: the items in the order of their elaboration, each with its
-/// subunits after it, by name.
+/// The units of a partition in the order that they have in its image: the items in the order of their elaboration, each with its subunits after it,
+/// by name.
+///
+/// # Errors
+///
+/// `NoMemory` if the allocator refuses memory.
 pub fn placed(alloc: Global, sources: &Sources, items: &[UnitKey]) -> Result<Vec<UnitKey>, NoMemory>
     ensures { IfOk result (λ placed. ArePlaced sources.now (map key_of items.now) (map key_of placed.items)) }
 {

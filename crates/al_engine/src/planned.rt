@@ -1,4 +1,4 @@
-// What compiling gives before anything is linked.
+// The result of compiling before anything is linked.
 ghost use Rattle.std.specs.Prelude.{◌≡◌};
 
 use crate::objects::UnitObject;
@@ -7,8 +7,8 @@ use al_bind::BindFault;
 use al_view::LinkSymbol;
 use std::rc::Rc;
 
-/// A partition that is to be linked: the order of its items, the symbol of its main subprogram's code, and its units with their
-/// objects in the order in which they stand in an image.
+/// A partition that is to be linked: the order of its items, the symbol of its main subprogram's code, and its units with their objects, in the order
+/// that they have in an image.
 pub struct Partition {
     pub(crate) order: Vec<UnitKey>,
     pub(crate) main: LinkSymbol,
@@ -26,7 +26,7 @@ impl Drop for Partition {
 }
 
 impl Partition {
-    /// The order alone.
+    /// The order.
     pub(crate) fn into_order(self) -> Vec<UnitKey>
         ensures { result ≡ self.order }
     {
@@ -51,8 +51,7 @@ impl Partition {
     }
 }
 
-/// A partition as the one before, of which one unit has another object: where that unit stands among the units of the one before, and its
-/// object.
+/// A partition that differs from the one before in one unit's object: the place of that unit among the units, and its object.
 pub struct Renewal {
     pub(crate) main: LinkSymbol,
     pub(crate) at: usize,
@@ -79,15 +78,15 @@ impl Renewal {
     }
 }
 
-/// What compiling gives before anything is linked.
+/// The result of compiling before anything is linked.
 #[derive(Drop)]
 pub enum Planned {
-    /// What is wrong with the files, by file, place and number: one thing at least.
+    /// The errors in the files, by file, place and number: at least one.
     Faulty(Vec<Diagnostic>),
-    /// The partition lacks something, or there is no order of elaboration.
+    /// Something is missing in the partition, or there is no order of elaboration.
     Unbound(BindFault),
-    /// The image of this partition is what is left to do.
+    /// This partition is to be linked.
     Linkable(Partition),
-    /// The same, and it is the partition before but for the object of one unit.
+    /// A partition is to be linked that differs from the one before only in one unit's object.
     Renewed(Renewal),
 }

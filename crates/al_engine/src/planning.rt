@@ -1,4 +1,4 @@
-// Compiling the files of a library whose units are checked, as far as to what is linked.
+// The result of compiling the files of a library whose units are checked, up to what is linked.
 ghost use Rattle.std.specs.Prelude.{◌≡◌, [], map, IfOk, IfSome, IsTrue, MatchResult};
 ghost use Rattle.std.specs.Map.{keys_of};
 ghost use Rattle.al_base.specs.Batch.{finding_of, key_of};
@@ -27,6 +27,10 @@ use al_view::copied_unit;
 use std::alloc::Global;
 
 /// A copy of these units, in their order.
+///
+/// # Errors
+///
+/// `NoMemory` if the allocator refuses memory.
 pub(crate) fn copied(alloc: Global, units: &[UnitKey]) -> Result<Vec<UnitKey>, NoMemory>
     ensures { IfOk result (λ copy. copy.items ≡ units.now) }
 {
@@ -37,7 +41,7 @@ pub(crate) fn copied(alloc: Global, units: &[UnitKey]) -> Result<Vec<UnitKey>, N
     Ok(copy)
 }
 
-/// The order in which the items of a partition are elaborated, where it is known; or else what [`bind`] gives.
+/// The order in which the items of a partition are elaborated: the known one, if there is one, or else the result of [`bind`].
 fn bound(
     alloc: Global,
     sources: &Sources,
@@ -75,7 +79,7 @@ fn partition_of(
     })
 }
 
-/// All that is wrong with the files; it isn't looked for where it is known to be nothing.
+/// All errors in the files. They aren't looked for if it is known that there are none.
 fn found_in(
     alloc: Global,
     sources: &Sources,
@@ -93,12 +97,12 @@ fn found_in(
     findings_of(alloc, sources, entries, faults)
 }
 
-/// What compiling the files gives for a main unit, where the units have these entries, up to the image. An order of elaboration that
-/// is known isn't looked for again, and no fault where it is known that there is none.
+/// The result of compiling the files for a main unit, if the units have these entries, up to the image. A known order of elaboration isn't looked for
+/// again, and errors aren't looked for if it is known that there are none.
 ///
 /// # Errors
 ///
-/// `NoMemory` where memory was wanted and not given. What is wrong with the files is no error.
+/// `NoMemory` if the allocator refuses memory. Errors in the files are a result.
 pub fn plan(
     alloc: Global,
     sources: &Sources,

@@ -1,4 +1,4 @@
-// Files with what they are read as.
+// Files with what a build reads in them.
 ghost use Rattle.std.specs.Prelude.{◌≡◌, IfOk, IfSome};
 ghost use Rattle.al_engine.specs.GraphGraphs.{HaveSameHeaders};
 ghost use Rattle.al_engine.specs.Texts.{HaveTextsBut};
@@ -9,12 +9,12 @@ use al_base::{Files, NoMemory};
 use al_unit_graph::Sources;
 use std::alloc::Global;
 
-/// The files of a library with what they are read as.
+/// The files of a library, with what a build reads in them.
 pub trait ReadFiles: Drop {
     ghost use Rattle.al_base.specs.Files.{Texts};
     ghost use Rattle.al_unit_graph.specs.Headers.{Library};
 
-    /// What files are read as.
+    /// The library that files are read as.
     ghost library: { Texts → Library };
 
     /// The files that were read.
@@ -24,35 +24,34 @@ pub trait ReadFiles: Drop {
     ///
     /// # Errors
     ///
-    /// `NoMemory` where memory was wanted and not given. What is wrong with the files is no error.
+    /// `NoMemory` if the allocator refuses memory. Errors in the files are a result.
     fn of(alloc: Global, now: &Files) -> Result<Self, NoMemory>
         ensures { IfOk result (λ read. files read ≡ now.now) };
 
-    /// Reads files again. What is held of those that were read before with the same texts can be shared.
+    /// Reads files again. What `before` holds for the same sources can be shared.
     ///
     /// # Errors
     ///
-    /// `NoMemory` where memory was wanted and not given.
+    /// `NoMemory` if the allocator refuses memory.
     fn after(alloc: Global, now: &Files, before: &Self) -> Result<Self, NoMemory>
         ensures { IfOk result (λ read. files read ≡ now.now) };
 
-    /// Reads files again, as [`Self::after`] does. Where they are files of the same names, each with the header that it had or with the same
-    /// fault, it can tell of which files the texts may be other ones; where it tells nothing, more is done than need be.
+    /// Reads files again, as [`Self::after`] does. If the files have the same names, and each has the same header as before or the same error, the
+    /// second result can say which files may have other sources. If it says nothing, the build does more than it needs to.
     ///
     /// # Errors
     ///
-    /// `NoMemory` where memory was wanted and not given. What is wrong with the files is no error.
+    /// `NoMemory` if the allocator refuses memory. Errors in the files are a result.
     fn again(alloc: Global, now: &Files, before: &Self) -> Result<(Self, Option<Edited>), NoMemory>
         ensures files { IfOk result (λ r. files r.0 ≡ now.now) }
         ensures edited { IfOk result (λ r. IfSome r.1 (λ edited. HaveSameHeaders (library (files before.now)) (library (files r.0)) × HaveTextsBut (library (files before.now)) (library (files r.0)) edited)) };
 
-    /// Reads one file again, which was there when these were read and alone was edited since. What is held of it can be shared with what was
-    /// read elsewhere, where it has the same text there. Where it has the header that it had, or the same fault, it can be told that no other
-    /// text may be another one.
+    /// Reads one file again, which was there when these were read and is the only one that was edited since. What is held of it can be shared with
+    /// `other`, if it has the same source there. If its header is the same, or its error, the second result can say that no other source differs.
     ///
     /// # Errors
     ///
-    /// `NoMemory` where memory was wanted and not given.
+    /// `NoMemory` if the allocator refuses memory.
     fn renew(
         self,
         alloc: Global,
@@ -64,7 +63,7 @@ pub trait ReadFiles: Drop {
         ensures files { IfOk result (λ r. files r.0 ≡ now.now) }
         ensures edited { IfOk result (λ r. IfSome r.1 (λ edited. HaveSameHeaders (library (files self)) (library (files r.0)) × HaveTextsBut (library (files self)) (library (files r.0)) edited)) };
 
-    /// The files as the graph of units has them.
+    /// The files, in the form that the graph of units takes.
     fn sources(&self) -> &Sources
         ensures { result.now ≡ library (files self.now) };
 }

@@ -11,7 +11,11 @@ use crate::read_files::ReadFiles;
 use al_base::{Files, Name, NoMemory};
 use std::alloc::Global;
 
-/// The files as they are, with what they are read as: what the last build read of them can be shared.
+/// The present files with what is read in them. What the last build read can be shared.
+///
+/// # Errors
+///
+/// `NoMemory` if the allocator refuses memory.
 pub(crate) fn read_now<R: ReadFiles>(
     alloc: Global,
     now: &Files,
@@ -25,8 +29,8 @@ pub(crate) fn read_now<R: ReadFiles>(
     }
 }
 
-/// The files as they are, with what they are read as; and of which of them the texts may be other ones than in the last build, where it is
-/// known that each has the header that it had.
+/// The present files with what is read in them; and which of them may have other sources than in the last build, if each is known to have the same
+/// header.
 fn read_again<R: ReadFiles>(
     alloc: Global,
     now: &Files,
@@ -41,8 +45,8 @@ fn read_again<R: ReadFiles>(
     }
 }
 
-/// The same where it is known which file alone was edited since the last build, and what that build read is there once more: no other file
-/// is looked at.
+/// As [`read_again`], if `alone` is the only file that was edited since the last build, and `spare` is a second copy of what that build read: no
+/// other file is looked at.
 fn read_edited<R: ReadFiles>(
     alloc: Global,
     now: &Files,
@@ -61,8 +65,12 @@ fn read_edited<R: ReadFiles>(
     }
 }
 
-/// The files as they are, with what they are read as; and of which of them the texts may be other ones than in the last build, where it is
-/// known that each has the header that it had.
+/// The present files with what is read in them; and which of them may have other sources than in the last build, if each is known to have the same
+/// header.
+///
+/// # Errors
+///
+/// `NoMemory` if the allocator refuses memory.
 pub(crate) fn read<R: ReadFiles>(
     alloc: Global,
     now: &Files,
@@ -84,7 +92,7 @@ pub(crate) fn read<R: ReadFiles>(
     }
 }
 
-/// Of what was read, the file read again that alone was edited since; none where memory is wanting.
+/// What was read, in which the only edited file is read again; `None` if the allocator refuses memory.
 fn renewed<R: ReadFiles>(
     alloc: Global,
     now: &Files,
@@ -102,8 +110,8 @@ fn renewed<R: ReadFiles>(
     }
 }
 
-/// What a build read once more, for the next one: made of what the build before read, where one file alone was edited since. None where
-/// memory is wanting, or more was edited.
+/// A second copy of what a build read, for the next one. It is made from what the build before read, if only one file was edited since. `None` if the
+/// allocator refuses memory, or more was edited.
 pub(crate) fn read_twice<R: ReadFiles>(
     alloc: Global,
     now: &Files,
@@ -126,8 +134,7 @@ pub(crate) fn read_twice<R: ReadFiles>(
     }
 }
 
-/// The name of the file that alone is edited where its text is set now: where it is there, and no other one was edited. None where memory is
-/// wanting.
+/// The name of the file whose source is set now, if it is there and is the only one that is edited. `None` also if the allocator refuses memory.
 pub(crate) fn alone_now(alloc: Global, is_edited: bool, files: &Files, name: &[u8]) -> Option<Name>
     ensures { IfSome result (λ file. (file ≡ name.now) × (is_edited ≡ false) × (is_some (text_of files.now name.now) ≡ true)) }
 {

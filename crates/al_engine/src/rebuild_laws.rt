@@ -1,7 +1,7 @@
-//! Laws of builds over what is kept. The function does nothing: its contract is the law.
+//! A law of builds over entries, as the contract of a function without code.
 ghost use Rattle.al_engine.specs.Rebuilds.{RebuildsAreCompiled};
 
-/// What a build gives is what compiling the same files from nothing gives: no entry, no earlier build and no command has a part in it.
+/// A build gives what compiling the same files from nothing gives. It doesn't depend on any entry, earlier build or command.
 pub fn rebuilds_are_compiled()
     ensures { RebuildsAreCompiled }
 {}

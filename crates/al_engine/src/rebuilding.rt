@@ -1,4 +1,4 @@
-// A build of a library's units over what is kept of them.
+// A build of a library's units over their entries.
 ghost use Rattle.std.specs.Prelude.{ℕ, ◌≡◌, ◌∷◌, [], true, false, List, IfOk, IfSome, IsTrue, MatchOption, None, OnErr, OnOk, length, map};
 ghost use Rattle.std.specs.List.{list_all};
 ghost use Rattle.std.specs.Map.{keys_of};
@@ -44,15 +44,15 @@ use al_unit_graph::Sources;
 use al_view::Seq;
 use std::alloc::Global;
 
-/// What a build gives.
+/// The result of a build.
 pub struct Rebuilt {
-    /// What compiling the files gives for the main unit.
+    /// The result of compiling the files for the main unit.
     pub compiled: Compiled,
     /// The units that were checked, by unit and kind.
     pub checked: Seq<UnitKey>,
     /// How many stored answers were compared with those of now, to 2^64-1.
     pub compared: usize,
-    /// Of how many units code was written into the image of the build before.
+    /// The number of units whose code was written into the image of the build before.
     pub patched: usize,
 }
 
@@ -68,7 +68,7 @@ impl Drop for Rebuilt {
 }
 
 impl Rebuilt {
-    /// What stands before the first build: no image. It takes no memory.
+    /// The result before the first build: no image. It takes no memory.
     pub fn nothing(alloc: Global) -> Rebuilt
         ensures { linked_in result.compiled ≡ None }
     {
@@ -81,17 +81,17 @@ impl Rebuilt {
     }
 }
 
-/// What of the last build, but for the edited units, is so in this one.
+/// How the last build relates to this one, apart from the edited units.
 #[derive(Clone, Copy)]
 pub struct Standing {
-    /// It found nothing wrong but in them.
+    /// It found errors only in the edited units.
     pub is_clean: bool,
     /// It was of this main unit.
     pub has_partition: bool,
 }
 
-/// A build that is done but for the image: what is to be linked, the units that were checked, by unit and kind, and how many stored answers
-/// were compared.
+/// A build that is done except for the image: what is to be linked, the units that were checked, by unit and kind, and how many stored answers were
+/// compared.
 pub struct PreparedBuild {
     pub planned: Planned,
     pub checked: Vec<UnitKey>,
@@ -108,7 +108,7 @@ impl Drop for PreparedBuild {
     }
 }
 
-/// The units that alone were edited, where all others have the entries that they had.
+/// The edited units, if all others have the same entries as before.
 fn renewed_units(edited: &Option<Vec<EditedUnit>>, is_renewal: bool) -> Option<&[EditedUnit]>
     ensures { IfSome result (λ edits. IsTrue is_renewal × MatchOption edited.now ⊥ (λ e. e.items ≡ edits.now)) }
 {
@@ -122,14 +122,14 @@ fn renewed_units(edited: &Option<Vec<EditedUnit>>, is_renewal: bool) -> Option<&
     }
 }
 
-/// Whether these units are without faults.
+/// Whether these units have no errors.
 fn are_sound(entries: &KeptEntries, edits: &[EditedUnit]) -> bool
     ensures { result ≡ list_all (λ e. is_sound (results_of (now_at entries.now) e.unit)) edits.now }
 {
     edits.iter().all(|edited| has_sound(entries, &edited.unit))
 }
 
-/// Whether some units alone have other entries than before, these are without faults, and nothing else was wrong before.
+/// Whether only some units have other entries than before, these have no errors, and there were no others before.
 fn is_clean(entries: &KeptEntries, standing: Standing, renewed: Option<&[EditedUnit]>) -> bool
     ensures clean { IsTrue result → IsTrue standing.is_clean }
     ensures sound { IsTrue result → MatchOption renewed.entry ⊥ (λ edits. (u : UnitKey) → has_unit (units_of edits.now) u ≡ true → is_sound (results_of (now_at entries.now) u) ≡ true) }
@@ -143,7 +143,7 @@ fn is_clean(entries: &KeptEntries, standing: Standing, renewed: Option<&[EditedU
     }
 }
 
-/// The one unit that alone has another entry than before.
+/// The edited unit, if exactly one has another entry than before.
 fn alone_in(renewed: Option<&[EditedUnit]>) -> Option<&UnitKey>
     ensures { IfSome result (λ unit. MatchOption renewed.entry ⊥ (λ edits. units_of edits.now ≡ unit.now ∷ [])) }
 {
@@ -156,8 +156,8 @@ fn alone_in(renewed: Option<&[EditedUnit]>) -> Option<&UnitKey>
     }
 }
 
-/// What is to be linked where one unit alone has another entry than before, without faults, and the last build has the partition: all but the
-/// object of that unit is as in that build. None where it isn't so.
+/// What is to be linked if exactly one unit has another entry than before and no errors, and the last build has the partition: everything is as in
+/// that build except for that unit's object. `None` if that isn't so.
 fn renewed_plan(
     alloc: Global,
     sources: &Sources,
@@ -183,8 +183,8 @@ fn renewed_plan(
     }
 }
 
-/// What compiling the files gives for a main unit, up to the image, as `plan` gives it. Where some units alone have other entries than
-/// before, without faults, no fault is looked for; and where it is one, what the last build gave is used again.
+/// The result of compiling the files for a main unit, up to the image, as `plan` gives it. If only some units have other entries than before, and no
+/// errors, then errors aren't looked for; if it is one unit, the result of the last build is used again.
 fn plan_now(
     alloc: Global,
     sources: &Sources,
@@ -217,18 +217,17 @@ fn plan_now(
     Ok(planned)
 }
 
-/// Does all of a build of a main unit but for its image: each unit is checked that is reached and has no entry for its text, or one with
-/// an answer that differs now, and what all units give then is compiled. The library's graph is given, and the order of elaboration
-/// where it is known; and the units that alone were edited since a build that reached each unit, how that one stands to this, and what compiling
-/// gave in it. What the last build settled stays as it is.
-/// - `prepared`: which units were checked, what compiling gives up to the image, which entries there will be. Where there is something to
-///   link, its units define the main subprogram's code and all that they use.
-/// - `counted`: so many checks were made.
+/// Does everything of a build of a main unit except its image: it checks each unit that is reached and has no entry for its source, or one with an
+/// answer that differs now, and compiles what all units give then. `graph` is the library's graph, and `known` the order of elaboration, if that is
+/// known. `edited` are the only edited units since a build that reached each unit, `standing` says how that build relates to this one, and `before`
+/// is its result. The entries of the last build are unchanged.
+/// - `prepared`: which units were checked, the result of compiling up to the image, and which entries there will be. If there is something to link,
+///   its units define the main subprogram's code and all that they use.
+/// - `counted`: how many checks were made.
 ///
 /// # Errors
 ///
-/// `NoMemory` where memory was wanted and not given. The count of checks may have risen, and entries may have been made that are let go by
-/// `cancel`.
+/// `NoMemory` if the allocator refuses memory. The count of checks may have risen, and entries may have been made, which `cancel` drops.
 pub fn prepare<C: UnitCheck, P: Answers>(
     alloc: Global,
     cache: &mut UnitCache<C>,
@@ -271,16 +270,15 @@ pub fn prepare<C: UnitCheck, P: Answers>(
 }
 
 impl PreparedBuild {
-    /// Ends a build. The image comes last of all that takes memory: it is linked in the place of the last build's, where that gave one.
-    /// Then the entries that were made are settled, whether something is wrong with the files or not.
-    /// - `rebuilt`: which units were checked, what compiling gives, which entries there are then; what is kept of the units then, and how
-    ///   many stored answers were compared.
-    /// - `patched`: of how many units code was written into the image.
+    /// Ends a build. The image is the last thing that takes memory: it is linked in the place of the last build's, if that gave one. Then the build's
+    /// entries are settled, whether the files have errors or not.
+    /// - `rebuilt`: which units were checked, the result of compiling, which entries there are then, and how many stored answers were compared.
+    /// - `patched`: the number of units whose code was written into the image.
     ///
     /// # Errors
     ///
-    /// `NoMemory` where memory was wanted and not given. What the last build gave is as before, and so is what is kept, once the build
-    /// is cancelled.
+    /// `NoMemory` if the allocator refuses memory. The result of the last build is then as before, and so are the entries, once the build is
+    /// cancelled.
     pub fn finish<C: UnitCheck>(
         self,
         alloc: Global,

@@ -14,13 +14,13 @@ use al_query_outcome::UnitCheck;
 use al_unit_graph::Sources;
 use std::alloc::Global;
 
-/// What a build did to what is kept.
+/// What a build did to the entries.
 pub struct Rechecked {
     /// The units that were checked, by unit and kind.
     pub checked: Vec<UnitKey>,
     /// How many stored answers were compared, to 2^64-1.
     pub compared: usize,
-    /// Whether it is known that one unit alone has another entry than before.
+    /// Whether it is known that only edited units have other entries than before.
     pub is_renewal: bool,
 }
 
@@ -48,7 +48,11 @@ impl Rechecked {
     }
 }
 
-/// Brings the units of a library up to date, in an order of dependence. What the last build settled stays as it is.
+/// Brings the units of a library up to date, in an order of dependence. The entries of the last build are unchanged.
+///
+/// # Errors
+///
+/// `NoMemory` if the allocator refuses memory.
 pub fn recheck<C: UnitCheck, P: Answers>(
     alloc: Global,
     checker: &mut C,

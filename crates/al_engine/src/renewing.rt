@@ -1,4 +1,4 @@
-// A build in which some units alone were edited.
+// A build in which only some units were edited.
 ghost use Rattle.std.specs.Prelude.{◌≡◌, ◌⊎◌, ◌∷◌, ◌++◌, [], false, IfOk, IfSome, IsTrue, MatchOption, OnOk, length};
 ghost use Rattle.al_base_shortage.specs.Counts.{one_more};
 ghost use Rattle.al_query_outcome.specs.Equations.{is_sound};
@@ -23,7 +23,7 @@ use al_query_outcome::UnitCheck;
 use al_unit_graph::Sources;
 use std::alloc::Global;
 
-/// Whether a unit's file is without a text, or this is its text.
+/// Whether a unit's file has this source, or no source.
 pub(crate) fn has_text(sources: &Sources, unit: &UnitKey, text: &[u8]) -> bool
     ensures { text.now ≡ text_of sources.now unit.now → IsTrue result }
 {
@@ -36,8 +36,8 @@ pub(crate) fn has_text(sources: &Sources, unit: &UnitKey, text: &[u8]) -> bool
     }
 }
 
-/// Whether the new entry of an edited unit leaves all others as they are: no stored answer differs from those of now that didn't before; and no
-/// unit depends on it by itself, or it is as sound as before.
+/// Whether the new entry of an edited unit leaves all others as they are: no stored answer differs from those of now that didn't before, and no unit
+/// depends on it directly, or it is as sound as before.
 fn is_unread(entries: &KeptEntries, edited: &EditedUnit, was_sound: bool) -> bool
     ensures { IsTrue result → ((edited.now.is_base ≡ false) ⊎ (is_sound (results_of (now_at entries.now) edited.now.unit) ≡ was_sound)) × AreMarkedAsBefore entries.now }
 {
@@ -50,7 +50,11 @@ fn is_unread(entries: &KeptEntries, edited: &EditedUnit, was_sound: bool) -> boo
     has_sound(entries, &edited.unit) == was_sound
 }
 
-/// Checks an edited unit under the answers that there are; whether that leaves all others as they are.
+/// Checks an edited unit under the present answers. Gives whether that leaves all others as they are.
+///
+/// # Errors
+///
+/// `NoMemory` if the allocator refuses memory.
 pub(crate) fn check_edited<C: UnitCheck, P: Answers>(
     alloc: Global,
     checker: &mut C,
@@ -75,9 +79,9 @@ pub(crate) fn check_edited<C: UnitCheck, P: Answers>(
     Ok(is_unread(entries, edited, was_sound))
 }
 
-/// Brings the units of a library up to date where these alone were edited. Each is checked under the answers that there are, in the order.
-/// Where that leaves all others as they are, no other unit is looked at; else those are that stand after the first that doesn't. What
-/// the last build settled stays as it is.
+/// Brings the units of a library up to date if only these were edited. Each is checked under the present answers, in the order. As long as that
+/// leaves all others as they are, no other unit is looked at. After the first edited unit that doesn't, all later units of the order are. The entries
+/// of the last build are unchanged.
 fn renew<C: UnitCheck, P: Answers>(
     alloc: Global,
     checker: &mut C,
@@ -109,8 +113,12 @@ fn renew<C: UnitCheck, P: Answers>(
     })
 }
 
-/// Brings the units of a library up to date, in an order of dependence; where some units are given, these alone were edited. What the last
-/// build settled stays as it is.
+/// Brings the units of a library up to date, in an order of dependence. If `edited` has units, only these were edited. The entries of the last build
+/// are unchanged.
+///
+/// # Errors
+///
+/// `NoMemory` if the allocator refuses memory.
 pub(crate) fn update<C: UnitCheck, P: Answers>(
     alloc: Global,
     checker: &mut C,

@@ -8,7 +8,11 @@ use al_unit_graph::KeySet;
 use al_view::copied_unit;
 use std::alloc::Global;
 
-/// The units each once, by unit and kind.
+/// The units, each once, by unit and kind.
+///
+/// # Errors
+///
+/// `NoMemory` if the allocator refuses memory.
 pub(crate) fn in_key_order(alloc: Global, units: &[UnitKey]) -> Result<Vec<UnitKey>, NoMemory>
     ensures { IfOk result (λ sorted. map key_of sorted.items ≡ in_order (map key_of units.now)) }
 {

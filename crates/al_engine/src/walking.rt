@@ -1,4 +1,4 @@
-// The edited units of a library, as they stand in an order of dependence.
+// The edited units of a library, in an order of dependence.
 ghost use Rattle.std.specs.Prelude.{◌≡◌, ◌<◌, ◌++◌, ◌∷◌, ℕ, [], true, IfOk, IfSome, IsTrue, List, OnOk, length, position};
 ghost use Rattle.std.specs.List.{find};
 ghost use Rattle.std.specs.Option.{option_copied};
@@ -23,7 +23,7 @@ use al_unit_graph::Sources;
 use al_view::is_unit;
 use std::alloc::Global;
 
-/// Where a unit stands in an order.
+/// The place of a unit in an order.
 fn place_of(order: &[UnitKey], unit: &UnitKey) -> Option<usize>
     ensures value { result ≡ position (same_unit unit.now) order.now }
     ensures within { IfSome result (λ place. place < length order.now) }
@@ -31,7 +31,7 @@ fn place_of(order: &[UnitKey], unit: &UnitKey) -> Option<usize>
     order.iter().position(|other| is_unit(unit, other))
 }
 
-/// Those units of an order that stand after this one, which is in it.
+/// The units of an order that come after this one, which is in it.
 fn units_after<'a>(order: &'a [UnitKey], unit: &UnitKey) -> &'a [UnitKey]
     ensures { has_unit order.now unit.now ≡ true → (before : List UnitKey) × (order.now ≡ before ++ unit.now ∷ result.now) }
 {
@@ -41,14 +41,14 @@ fn units_after<'a>(order: &'a [UnitKey], unit: &UnitKey) -> &'a [UnitKey]
     }
 }
 
-/// The edit of a unit, where there is one.
+/// The edit of a unit, if there is one.
 fn edit_of<'a>(edits: &'a [EditedUnit], unit: &UnitKey) -> Option<&'a EditedUnit>
     ensures { option_copied result ≡ find (λ e. same_unit unit.now e.unit) edits.now }
 {
     edits.iter().find(|edited| is_unit(unit, &edited.unit))
 }
 
-/// The edited units, each once, as they stand in an order.
+/// The edited units, each once, as they come in an order.
 fn in_order(
     alloc: Global,
     order: &[UnitKey],
@@ -65,8 +65,8 @@ fn in_order(
     Ok(row)
 }
 
-/// Checks the edited units, which stand so in the order, under the answers that there are. Where one doesn't leave all others as they are,
-/// those are brought up to date that stand after it. Whether all leave all others as they are.
+/// Checks the edited units, which are in the given order, under the present answers. After the first that doesn't leave all others as they are, all
+/// later units are brought up to date. Gives whether all leave all others as they are.
 fn walk<C: UnitCheck, P: Answers>(
     alloc: Global,
     checker: &mut C,
@@ -103,7 +103,11 @@ fn walk<C: UnitCheck, P: Answers>(
     Ok(true)
 }
 
-/// The same of edited units in any order.
+/// Checks the edited units, as [`walk`] does, whatever order they are given in.
+///
+/// # Errors
+///
+/// `NoMemory` if the allocator refuses memory.
 pub(crate) fn walk_in_order<C: UnitCheck, P: Answers>(
     alloc: Global,
     checker: &mut C,
