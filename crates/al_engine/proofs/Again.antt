@@ -34,13 +34,13 @@ use Rattle.al_engine.specs.Builds.{IsBuild}
 use Rattle.al_engine.specs.Graphs.{Remembered}
 use Rattle.al_engine.specs.States.{Built, Held, IsOfNow, IsRight, IsSettledBy}
 
--- what stays of an entry that stayed is that entry
+-- an entry that stayed after one build stays after the next
 stays : (is : Bool) (made before : Option Stored) → or_else made (if is then before else None) ≡ or_else made (if is then or_else made (if is then before else None) else None)
 stays is (Some e) before = refl
 stays true None before = refl
 stays false None before = refl
 
--- no unit stands out of order among none
+-- no units are in order
 none-ascend : IsStrictlySortedBy key_cmp (map key_of [])
 unfolding IsStrictlySortedBy
 none-ascend = tt
@@ -76,7 +76,7 @@ module _ (meaning : TextMeaning) (header : List ℕ → Header) (predefined : Qu
     entries = staying-again;
   }
 
--- a build with other units as those that it checked, and no unit patched
+-- the same result with another list of checked units, and no unit written
 abbrev pub gave_again : Rebuilt → List UnitKey → Rebuilt
 gave_again gave checked = record { compiled = gave.compiled; checked = checked; compared = 0; patched = 0 }
 
@@ -88,7 +88,7 @@ module _ (meaning : TextMeaning) (header : List ℕ → Header) (predefined : Qu
       → IsRebuilt meaning header predefined (library b.files) b.main (settled_at store) (settled_at store) (gave_again b.gave checked)
   settled-again store b checked none is = rebuilt-again meaning header predefined (library b.files) b.main is.before (settled_at store) b.gave is.rebuilt checked none
 
-  -- who has an entry is in the library
+  -- a unit that has an entry is in the library
   settled-there : (store : Entries) (b : Built) → IsSettledBy meaning header predefined library store b → (u : UnitKey) → is_some (settled_at store u) ≡ true → is_there (library b.files) u ≡ true
   unfolding is_faultless
   settled-there store b is u some = by (is_there (library b.files) u) refl (is.rebuilt.made u) refl (sym (ap is_some (is.rebuilt.entries u)) ∙ some)
@@ -160,7 +160,7 @@ module _ (meaning : TextMeaning) (header : List ℕ → Header) (predefined : Qu
       (subst (λ (m : List ℕ). IsBuild meaning header count predefined library m (record { cache = cache; predefined = pre; files = b.files; built = Some b }) (record { cache = cache; predefined = pre; files = b.files; built = Some (again b checked) })) of-now.1
       (build-at count cache pre b checked none is ready bound))
 
--- the last build is made once more with no unit checked
+-- the last build is repeated, and no unit is checked
 module _ (meaning : TextMeaning) (header : List ℕ → Header) (library : Texts → Library) {X : Type 0} (remembered : X → Remembered) (files_of : X → Texts) (main_of : X → List ℕ) (gave : Rebuilt) (checked : List UnitKey) (none : checked ≡ []) (files : Texts) (is_edited : Bool) where
   abbrev pub built_of : Rebuilt → Option X → Option Built
   built_of g last = option_map (λ x. record { files = files_of x; main = main_of x; gave = g }) last

@@ -1,11 +1,11 @@
--- The units on which others depend by themselves.
+-- The units on which others depend directly.
 use Rattle.std.proofs.Common.{◌≡◌, Bool, true, false, List, Option, Some, None, refl, sym, subst, ◌∙◌, ap, if◌then◌else◌}
 use Rattle.std.specs.Option.{is_some}
 use Rattle.al_base.specs.declared.unit_key.UnitKey.{UnitKey}
 use Rattle.al_view.specs.Symbols.{same_unit}
 use Rattle.al_view.proofs.SymbolLemmas.{same_unit-self}
 
--- a unit more takes none away
+-- adding a unit removes none
 pub stays : {X : Type 0} (old new : UnitKey → Option X) (key : UnitKey) (x : X) → ((u : UnitKey) → new u ≡ (if same_unit key u then Some x else old u)) → (u : UnitKey) → is_some (old u) ≡ true → is_some (new u) ≡ true
 stays old new key x set u is = ap is_some (set u) ∙ by (same_unit key u)
   where

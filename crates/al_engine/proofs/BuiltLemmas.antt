@@ -1,4 +1,4 @@
--- What a build makes of a library: where it is refused, and where it answers.
+-- The effect of a build on a library, if it runs out of memory and if it gives an answer.
 use Rattle.std.proofs.Common.{◌≡◌, ◌∙◌, ℕ, Bool, false, List, length, Option, Some, None, option_map, refl, sym, subst}
 use Rattle.al_base.specs.Files.{Texts}
 use Rattle.al_unit_graph.specs.Headers.{Header, Library}
@@ -25,7 +25,7 @@ use Rattle.al_engine.specs.States.{AreReadFor, Built, Held, IsRight, IsSettledBy
 use Rattle.al_engine.proofs.SameLemmas.{right-same}
 
 module _ (meaning : TextMeaning) (header : List ℕ → Header) (library : Texts → Library) where
-  -- which units a build checked, what it gave, and what it left
+  -- which units a build checked, its result, and the entries that it left
   abbrev pub Rebuilds : (Query → AnswerKind) → Texts → List ℕ → Entries → Entries → Rebuilt → Type 0
   Rebuilds pre files main old new gave = (is : IsRebuilt meaning header pre (library files) main (settled_at old) (settled_at new) gave) × IsKept pre (library files) old new is.made gave
 

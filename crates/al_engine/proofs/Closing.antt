@@ -40,7 +40,7 @@ compiled_by : (o : Object) → is_large o ≡ false → (c : CompiledCode) × (o
 compiled_by Large is = absurd (cc)
 compiled_by (Compiled c) is = (c, refl)
 
--- where each placed unit is needed and each needed one is placed
+-- each placed unit is needed, and each needed one is placed
 module _ (s : Setting) (main : List ℕ) (f : UnitKey → Option Outcome) (closed : IsClosed s main f) (coded : EachHasItsTreesSymbols) (placed : List Key) (stand : (k : Key) → Needed s.files main k → is_unit s.files k ≡ true → Contains placed k) (needed_alone : (k : Key) → Contains placed k → Needed s.files main k) (there : (u : UnitKey) (o : Outcome) → f u ≡ Some o → is_unit s.files (key_of u) ≡ true) (small : list_any (λ (u : WithObject). is_large u.1) (objects_at f (map unit_named placed)) ≡ false) where
   abbrev us : List WithObject
   us = objects_at f (map unit_named placed)
@@ -58,7 +58,7 @@ module _ (s : Setting) (main : List ℕ) (f : UnitKey → Option Outcome) (close
       by true is = absurd (not_both (list_any (λ (u : WithObject). is_large u.1) us) (any_into (λ (u : WithObject). is_large u.1) us x c is) small)
       by false is = refl
 
-  -- what a needed unit defines, an object of the image does
+  -- what a needed unit defines, an object of the image defines
   defined : (x : LinkSymbol) → IsDefined s main f x → Contains (defined_in (linked_units us)) x
   defined x (w, i, tree, needed, has, c) =
       let d = object_there w i tree has (stand (key_of w) needed (there w (Sound i tree) has)) in
@@ -84,7 +84,7 @@ module _ (s : Setting) (main : List ℕ) (f : UnitKey → Option Outcome) (close
       let same : own ≡ b = the_one own b c in
       used_of x v u i tree is needed (object_of tree) refl (subst (λ (y : WithObject). Contains (with_object y.0 y.1) v) (sym same) d) e
 
-  -- what an object of the image uses, its unit does
+  -- what an object of the image uses, its unit uses
   used : (x : LinkSymbol) → Contains (used_in (linked_units us)) x → Contains (defined_in (linked_units us)) x
   used x c =
       let a = from_flat_map (λ (u : UnitObject). map (λ r. r.symbol) u.object.uses) (linked_units us) x c in
@@ -97,7 +97,7 @@ module _ (s : Setting) (main : List ℕ) (f : UnitKey → Option Outcome) (close
   pub closed_units : AreClosed (main_symbol s.files main) (linked_units us)
   closed_units = record { main_defined = defined (main_symbol s.files main) closed.main_defined; all_defined = used }
 
--- of a partition
+-- the objects of a partition are closed
 pub closed_partition : (s : Setting) (main : List ℕ) (f : UnitKey → Option Outcome) → IsClosed s main f → EachHasItsTreesSymbols → NeededArePlaced → IsWhole s.files
     → ((u : UnitKey) (o : Outcome) → f u ≡ Some o → is_unit s.files (key_of u) ≡ true)
     → (order : List Key) (symbol : LinkSymbol) (us : List WithObject) → IsPartition s.files f main order symbol us → AreClosedObjects symbol us
@@ -107,7 +107,7 @@ closed_partition s main f closed coded placing whole there order symbol us p sma
     subst (λ (x : LinkSymbol). AreClosed x (linked_units us)) (sym p.symbol_is)
     (subst (λ (l : List WithObject). AreClosed (main_symbol s.files main) (linked_units l)) (sym p.objects_are) (closed_units s main f closed coded p.placed stand.stand stand.needed there few))
 
--- of a plan
+-- the objects of a plan are closed
 module _ (lib : Library) (f : UnitKey → Option Outcome) (main : List ℕ) (each : (order : List Key) (symbol : LinkSymbol) (us : List WithObject) → IsPartition lib f main order symbol us → AreClosedObjects symbol us) where
   closed_renewal : (before : Built) (r : Renewal) → IsRenewal lib f main before r → IsClosedRenewal before r
   closed_renewal (built.Faulty diagnostics) r is = absurd is

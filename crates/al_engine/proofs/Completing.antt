@@ -40,7 +40,7 @@ use Rattle.al_bind.specs.Missing.{lacks_body, missing_stub, missing_stubs}
 use Rattle.al_engine.specs.Completing.{AreAllSound, KeepParts, ShowNoCode}
 use Rattle.al_engine.proofs.SubunitNames.{last_is, parent_is}
 
--- a sound outcome
+-- the outcome of a unit is sound
 pub record IsSound (f : UnitKey → Option Outcome) (u : UnitKey) : Type 0 where
   pub interface : UnitInterface
   pub tree : UnitTree
@@ -61,7 +61,7 @@ kind_in o = option_map (λ k. k.1) o
 kinds_apart : (n : List ℕ) (o : Option Key) → o ≡ Some (n, Body) → o ≡ Some (n, Sub) → ⊥
 kinds_apart n o one two = let same : Some Body ≡ Some Sub = ap kind_in (sym one ∙ two) in absurd (cc)
 
--- a name that is there
+-- a Boolean that isn't false is true
 there_by : (b : Bool) → (b ≡ false → ⊥) → b ≡ true
 there_by true not_false = refl
 there_by false not_false = absurd (not_false refl)
@@ -119,7 +119,7 @@ module _ (meaning : Meaning) (s : Setting) (is_setting : IsSetting s) (main : Li
       at true is = absurd (not_both (s.is_faultless (unit_of q)) (faultless (unit_of q) i tree has) (is_setting.without_files (unit_of q) is).0)
       at false is = ap (λ (o : Option Outcome). entry o q) has
 
-  -- one that isn't there answers nothing
+  -- a unit that isn't there answers nothing
   pub silent : (q : Query) → has_unit predefined_units (unit_of q) ≡ false → s.is_faultless (unit_of q) ≡ false → table s f q ≡ no_answer q
   silent q own gone = rw own (ap (λ (o : Option Outcome). entry o q) (no_outcome (unit_of q) gone))
 
@@ -162,7 +162,7 @@ module _ (meaning : Meaning) (s : Setting) (is_setting : IsSetting s) (main : Li
 
   -- ---- subunits
 
-  -- a body and a subunit of one name want one file
+  -- a body and a subunit of one name would be in one file
   no_body : (n : List ℕ) → s.is_faultless (subunit n) ≡ true → s.is_faultless (body n) ≡ false
   no_body n there = by (s.is_faultless (body n)) refl
     where
@@ -180,7 +180,7 @@ module _ (meaning : Meaning) (s : Setting) (is_setting : IsSetting s) (main : Li
       let a : table s f (Of (body n) Kind) ≡ no_answer (Of (body n) Kind) = silent (Of (body n) Kind) (not_predefined n) (no_body n (faultless (subunit n) i tree has)) in
       ap (λ (x : AnswerKind). if is_some (own_view_of x) then body n else subunit n) a
 
-  -- what a stub stands for is left to the subunit
+  -- what is declared by a stub is left to the subunit
   left_to_subunit : (v : UnitKey) (i : UnitInterface) (tree : UnitTree) (stub : List ℕ) (x : LinkSymbol) → Has f v i tree → (v.kind ≡ Decl → ⊥) → is_simple stub ≡ true
       → Contains (views_links (one_view (first_view (interfaces.views_of (part_of i.parts (Stub stub)) separate)))) x → Contains (left_to (subunit (v.name ++ 46 ∷ stub)) (table s f)) x
   left_to_subunit v i tree stub x has inside simple c =
@@ -193,7 +193,7 @@ module _ (meaning : Meaning) (s : Setting) (is_setting : IsSetting s) (main : Li
       let all : left_to (subunit name) t ≡ views_links (one_view (stub_view t name v.name)) = ap (λ (o : Option (List ℕ)). views_links (option_map_or (λ (p : List ℕ). one_view (stub_view t name p)) o [])) (parent_is v.name stub simple) in
       subst (λ (xs : List LinkSymbol). Contains xs x) (sym (all ∙ ap (λ (o : Option ViewKind). views_links (one_view o)) view)) c
 
-  -- a subunit has no stub in place of what it completes
+  -- a subunit has no stub in the place of what it completes
   defined_inside : (other : UnitTree) (j : UnitInterface) (x : LinkSymbol) → Contains (unit_defines other) x ⊎ ((Sub ≡ Body) × IsStubs j x) → Contains (unit_defines other) x
   defined_inside other j x (inl d) = d
   defined_inside other j x (inr d) = let no : Sub ≡ Body = d.0 in absurd (cc)

@@ -53,7 +53,7 @@ symbols_stood from (p ∷ ps) =
     ∙ ap (λ (xs : List LinkSymbol). xs ++ map (λ (a : Address). a.symbol) (defines_from (from + piece_size p) ps)) (symbol_of from p)
     ∙ ap (λ (xs : List LinkSymbol). stood_by p ++ xs) (symbols_stood (from + piece_size p) ps)
 
--- a symbol stands among pieces
+-- a symbol is among pieces
 record Stands (ps : List Piece) (x : LinkSymbol) : Type 0 where
   is : Contains (stood ps) x
 

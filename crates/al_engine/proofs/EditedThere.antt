@@ -1,4 +1,4 @@
--- The units that alone were edited since a build that found nothing wrong.
+-- The units that were edited since a build that found no errors, if nothing else was.
 use Rattle.std.proofs.Common.{IfSome, IfOk, map, ◌≡◌, ◌||◌, ◌++◌, inl, inr, ℕ, Bool, true, false, List, [], ◌∷◌, Result, Ok, Err, Option, Some, None, refl, sym, ap, subst, ◌∙◌, if◌then◌else◌}
 use Rattle.std.specs.List.{Contains, flat_map}
 use Rattle.std.specs.Map.{keys_of}
@@ -74,7 +74,7 @@ headed-same h k e = cc
 abbrev unreached : List ℕ → Finding
 unreached file = finding_at file (1, 1, 208)
 
--- what is found of an outcome is found in its file
+-- the errors of an outcome are in its file
 of-file : (file : List ℕ) (o : Option Outcome) (x : Finding) → Contains (outcome_findings file o) x → x.file ≡ file
 of-file file None x c = ap (λ (f : Finding). f.file) (sym (the_one (unreached file) x c))
 of-file file (Some (results.Sound interface tree)) x c = absurd (nowhere x c)
@@ -88,7 +88,7 @@ of-file file (Some (results.Faulty faults)) x c = listed faults (from_ascending 
     ]
 
 module _ (lib : Library) (f : UnitKey → Option Outcome) (none : (file : List ℕ) → file_faults lib file ≡ []) where
-  -- what is found in the text of a file is found
+  -- an error in the source of a file is among the errors of the library
   told-in : (file : List ℕ) (s : Source) (x : Finding) → source_at lib file ≡ Some s → Contains (contents_findings f file s.contents) x → Contains (findings_of lib f) x
   unfolding findings_of
   told-in file s x at c =
@@ -97,7 +97,7 @@ module _ (lib : Library) (f : UnitKey → Option Outcome) (none : (file : List �
       into_flat_map (file_findings lib f) (keys_of lib) file x (file_there lib file s at) (subst (λ (xs : List Finding). Contains xs x) (sym told) c)
 
   module _ (reached : (x : Finding) → Contains (findings_of lib f) x → x.code ≡ 208 → ⊥) (w : UnitKey) where
-    -- a unit of a library has an outcome, where it isn't told of one that it isn't reached
+    -- a unit of a library has an outcome, if no error says that it wasn't reached
     pub has-outcome : is_unit lib (key_of w) ≡ true → is_some (f w) ≡ true
     has-outcome there = by (f w) refl
       where
@@ -112,7 +112,7 @@ module _ (lib : Library) (f : UnitKey → Option Outcome) (none : (file : List �
             ap (contents_findings f file) held.headed ∙ ap (λ (k : Key). outcome_findings file (f (unit_named k))) at.1 ∙ ap (outcome_findings file) is in
             absurd (reached (unreached file) (told-in file held.source (unreached file) held.there (subst (λ (xs : List Finding). Contains xs (unreached file)) (sym told) (first (unreached file) []))) refl)
 
--- what a build tells is what it found
+-- a build reports the errors that it found
 pub told-are : (lib : Library) (f : UnitKey → Option Outcome) (main : List ℕ) (compiled : Compiled) → IsBatch lib f main compiled → map finding_of (diagnostics_of compiled) ≡ findings_of lib f
 told-are lib f main (Faulty diagnostics) is = is.0
 told-are lib f main (Unbound fault) is = sym is.0
@@ -136,7 +136,7 @@ module _ (meaning : TextMeaning) (header : List ℕ → Header) (pre : Query →
       by None never = absurd (cc)
       by (Some e) never = refl
 
-  -- so all entries were made by it
+  -- so that build made all entries
   pub all-made : (w : UnitKey) → entries w ≡ is.made w
   all-made w = is.entries w ∙ by (is.made w) (is_there lib w) (has-made w)
     where
@@ -148,7 +148,7 @@ module _ (meaning : TextMeaning) (header : List ℕ → Header) (pre : Query →
   pub made-entries : IsRechecked meaning header (setting_of header pre lib) before entries gave.checked
   made-entries = subst (λ (at : UnitKey → Option Stored). IsRechecked meaning header (setting_of header pre lib) before at gave.checked) (λ i w. sym (all-made w) i) is.rechecked
 
-  -- and where what it found is in the files of some units alone, which are sound now, nothing is found
+  -- if the errors were only in the files of some units, which are sound now, there are none now
   module _ (new : Library) (same : HaveSameGraph lib new) (edited : Edited) (units : List UnitKey) (found : AreIn edited (map finding_of (diagnostics_of gave.compiled)))
       (holds : (file : List ℕ) → may_differ edited file → (h : Header) × (unit_in new file ≡ Some h) × (has_unit units (unit_named (key_of_unit h)) ≡ true))
       (f : UnitKey → Option Outcome) (others : (w : UnitKey) → has_unit units w ≡ false → f w ≡ results_of entries w) (sound : (u : UnitKey) → has_unit units u ≡ true → is_sound (f u) ≡ true) where
@@ -157,7 +157,7 @@ module _ (meaning : TextMeaning) (header : List ℕ → Header) (pre : Query →
     sound-none file (Some (results.Faulty faults)) is_so = absurd (cc)
     sound-none file (Some (results.Sound interface tree)) is_so = refl
 
-    -- nothing is found in an edited file
+    -- there is no error in an edited file
     edited-none : (file : List ℕ) (s : Source) → source_at new file ≡ Some s → may_differ edited file → contents_findings f file s.contents ≡ []
     edited-none file s at may =
         let h = holds file may in
@@ -165,7 +165,7 @@ module _ (meaning : TextMeaning) (header : List ℕ → Header) (pre : Query →
         let one : s ≡ held.source = let two : Some s ≡ Some held.source = sym at ∙ held.there in cc in
         ap (λ (x : Source). contents_findings f file x.contents) one ∙ ap (contents_findings f file) held.headed ∙ sound-none file (f (unit_named (key_of_unit h.0))) (sound (unit_named (key_of_unit h.0)) h.2)
 
-    -- where something was found in a file it was edited
+    -- a file with an error was edited
     was-edited : (file : List ℕ) (s : Source) (x : Finding) → source_at lib file ≡ Some s → Contains (contents_findings (results_of is.made) file s.contents) x → x.file ≡ file → may_differ edited file
     was-edited file s x at c named =
         subst (may_differ edited) named (found x (subst (λ (xs : List Finding). Contains xs x) (sym told) (told-in lib (results_of is.made) none file s x at c)))
@@ -177,7 +177,7 @@ module _ (meaning : TextMeaning) (header : List ℕ → Header) (pre : Query →
         let c : Contains (outcome_findings file (results_of is.made w)) x = subst (λ (ys : List Finding). Contains ys x) (sym some_found) (first x xs) in
         edited-none file t at (was-edited file s x was (in_text x c) (of-file file (results_of is.made w) x c))
 
-    -- nor in a file that was not, in which nothing was found
+    -- there is no error in a file that wasn't edited, and had none
     file-none : (file : List ℕ) (s t : Source) → source_at lib file ≡ Some s → source_at new file ≡ Some t → unplaced_contents s.contents ≡ unplaced_contents t.contents → contents_findings f file t.contents ≡ []
     file-none file s t was at alike = by s.contents t.contents refl refl alike
       where
@@ -239,19 +239,19 @@ module _ (old new : Library) (entries : UnitKey → Option Stored) (edited : Edi
     edited = others;
   }
 
--- no unit depends by itself on one that isn't among the bases
+-- no unit depends directly on one that isn't among the bases
 pub base-of-none : (old new : Library) (graph : UnitGraph) (u : UnitKey) → HaveOneGraph old new → IsGraphOf old graph → at_unit graph.bases u ≡ None → IsBaseOfNone new u
 base-of-none old new graph u one of_old base w t c =
     let has : is_some (at_unit graph.bases u) ≡ true = of_old.bases (key_of w) (key_of u) (one.faultless (key_of w) ∙ t) (subst (λ (ks : List Key). Contains ks (key_of u)) (sym (one.dependences (key_of w))) c) in
     let none : is_some (at_unit graph.bases u) ≡ false = ap is_some base in
     absurd (cc)
 
--- what follows for each holds of the one that there is
+-- what follows for each element holds of the one that there is
 pub for-any : {X : Type 0} (o : Option X) (Q : X → Type 0) → ((x : X) → Q x) → IfSome o Q
 for-any None Q f = tt
 for-any (Some x) Q f = f x
 
--- what follows for each holds of the one that was found
+-- what follows for each element holds of the one that was found
 pub each-found : {X : Type 0} (o : Option X) (A B : X → Type 0) → IfSome o A → ((x : X) → A x → B x) → IfSome o B
 each-found None A B is f = tt
 each-found (Some x) A B is f = f x is
@@ -264,7 +264,7 @@ units-more : (edits : List EditedUnit) (e : EditedUnit) → units_of (edits ++ e
 units-more [] e = refl
 units-more (d ∷ ds) e = ap (λ (us : List UnitKey). d.unit ∷ us) (units-more ds e)
 
--- these files hold one of these units
+-- one of these units is in this file
 abbrev HeldAmong : Library → List UnitKey → List ℕ → Type 0
 HeldAmong lib units file = (h : Header) × (unit_in lib file ≡ Some h) × (has_unit units (unit_named (key_of_unit h)) ≡ true)
 
@@ -296,7 +296,7 @@ one-edited lib entries graph files edits file e are is = record {
         ap (λ (us : List UnitKey). has_unit us e.unit) (units-more edits e) ∙ list_any-append (same_unit e.unit) (units_of edits) (e.unit ∷ [])
         ∙ ap (λ (b : Bool). has_unit (units_of edits) e.unit || b) (has_unit-first e.unit []) ∙ or_true (has_unit (units_of edits) e.unit)
 
--- an edited unit has an entry for another text
+-- an edited unit has an entry for another source
 pub entered-of : (lib : Library) (entries : UnitKey → Option Stored) (edits : List EditedUnit) → ((e : EditedUnit) → Contains edits e → IsForAnother (entries e.unit) (text_of lib e.unit)) → (u : UnitKey) → has_unit (units_of edits) u ≡ true → IsForAnother (entries u) (text_of lib u)
 entered-of lib entries [] each u h = absurd (cc)
 entered-of lib entries (e ∷ es) each u h = by (same_unit u e.unit) refl h (entered-of lib entries es (λ d c. each d (later e es d c)) u)

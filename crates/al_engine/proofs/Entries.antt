@@ -1,4 +1,5 @@
--- The entries that a build made, as a checker of the library's units: it has their outcomes, their logs and what they promise.
+-- The entries that a build made, as a checker of the library's units: it gives their outcomes, with their logs and what they
+-- promise.
 use Rattle.std.proofs.Common.{◌≡◌, ℕ, true, false, Bool, List, Option, Some, None, if◌then◌else◌, refl, ap, subst, sym, ◌∙◌}
 use Rattle.std.specs.Option.{option_map}
 use Rattle.std.specs.List.{Contains, list_all}
@@ -111,7 +112,7 @@ module _ (meaning : TextMeaning) (header : List ℕ → Header) (predefined : Qu
   pub fit : (u : UnitKey) (o : Outcome) → f u ≡ Some o → FaultsFit u o
   fit u o is = let e = entry_of u o is in subst (λ (x : Outcome). FaultsFit u x) e.outcome_is (r.law u e.entry e.at).faults
 
-  -- a unit that has an outcome is in the library, and so is all on which it depends by itself
+  -- a unit that has an outcome is in the library, and so is all on which it depends directly
   pub faultless_with : (u : UnitKey) (o : Outcome) → f u ≡ Some o → is_faultless lib (key_of u) ≡ true
   faultless_with u o is = (both (is_faultless lib (key_of u)) (list_all (λ k. is_sound (f (unit_named k))) (direct lib (key_of u))) (reached u o is)).0
 

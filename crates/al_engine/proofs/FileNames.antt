@@ -12,7 +12,7 @@ fold_push : {A X : Type 0} (g : A → X → A) (a : A) (xs : List X) (x : X) →
 fold_push g a [] x = refl
 fold_push g a (y ∷ ys) x = fold_push g (g a y) ys x
 
--- one name more in the set of the names
+-- one more name in the set of names
 pub names_more : {Y : Type 0} (keys : List (Vec ℕ Y)) (name : Vec ℕ Y) (so_far : List (List ℕ)) → names_model keys ≡ fold (insert_key name_cmp) [] so_far → names_model (insert_key (λ a b. slice_cmp nat_cmp a.items b.items) keys name) ≡ fold (insert_key name_cmp) [] (so_far ++ name.items ∷ [])
 names_more keys name so_far are =
     mapped_insert (λ n. n.items) (λ a b. slice_cmp nat_cmp a.items b.items) name_cmp (λ a b. refl) keys name

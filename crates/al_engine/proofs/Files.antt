@@ -32,7 +32,7 @@ module _ {A B : Type 0} (f : A → B) where
   at (x ∷ xs) zero d b below is = is
   at (x ∷ xs) (suc i) d b below is = at xs i d b (omega arith) is
 
-  -- what holds of the first so many and of the next one
+  -- what holds of the first files and of the next one
   pub stepped : (P : B → Type 0) (xs : List A) (i : ℕ) (d : A) → i < length xs → ((k : ℕ) → k < i → (b : B) → get_or (map f xs) k b ≡ b → P b) → P (f (get_or xs i d)) → (k : ℕ) → k < i + 1 → (b : B) → get_or (map f xs) k b ≡ b → P b
   stepped P xs i d below all here = below_more (λ k. (b : B) → get_or (map f xs) k b ≡ b → P b) i all (λ b is. subst P (at xs i d b below is) here)
 
@@ -49,19 +49,19 @@ module _ (old new : Library) (files : List (List ℕ)) (of_old : files ≡ keys_
   by_sources file None (Some s) is_old is_new = listed file (subst (λ (fs : List (List ℕ)). Contains fs file) (sym of_new) (file_there new file s is_new))
   by_sources file None None is_old is_new = no_file file is_old is_new
 
-  -- what holds of each file of both libraries, and where there is none
+  -- what holds of each file that both libraries have, and of each name that neither has
   pub everywhere : (file : List ℕ) → P file
   everywhere file = by_sources file (source_at old file) (source_at new file) refl refl
 
--- what is known of a file: it is read as it was, and unless it may differ its text is as it was
+-- what is known of a file: it is read as before, and unless its source may differ it is the same
 abbrev pub Known : Library → Library → Edited → List ℕ → Type 0
 Known old new edited file = (contents_at old file ≡ contents_at new file) × ((may_differ edited file → ⊥) → text_in old file ≡ text_in new file)
 
--- it stays known where more files may differ
+-- a file stays known if more files may differ
 pub more_known : (old new : Library) (edited more : Edited) → ((f : List ℕ) → may_differ edited f → may_differ more f) → (file : List ℕ) → Known old new edited file → Known old new more file
 more_known old new edited more kept file known = (known.0, λ never. known.1 (λ may. never (kept file may)))
 
--- one file more
+-- one more file is known
 pub now_known : (old new : Library) (more : Edited) (file : List ℕ) (found : Option Bool) (same : Bool) → found ≡ Some same → IfSome found (λ s. (contents_at old file ≡ contents_at new file) × (IsTrue s → text_in old file ≡ text_in new file)) → (same ≡ false → may_differ more file) → Known old new more file
 now_known old new more file found same is kept noted =
     by same (subst (λ (o : Option Bool). IfSome o (λ s. (contents_at old file ≡ contents_at new file) × (IsTrue s → text_in old file ≡ text_in new file))) is kept) noted

@@ -1,4 +1,4 @@
--- What builds of the same files tell.
+-- What builds of the same files report.
 use Rattle.std.proofs.Common.{◌≡◌, ℕ, List, Option, Some, sym, ap, subst, ◌∙◌}
 use Rattle.al_base.specs.Files.{Texts}
 use Rattle.al_base.specs.declared.unit_key.UnitKey.{UnitKey}
@@ -17,7 +17,7 @@ use Rattle.al_engine.specs.declared.rebuilding.Rebuilt.{Rebuilt}
 use Rattle.al_engine.specs.LawBuilds.{BuildsTellOneThing, told}
 
 module _ (reply_is_one : ReplyIsOne) (meaning : TextMeaning) (header : List ℕ → Header) (predefined : Query → AnswerKind) (lib : Library) (main : List ℕ) where
-  -- the outcomes of the units are one map, so what is told is one thing
+  -- there is only one map of outcomes, so there is only one report
   one_reply : (old new other built : UnitKey → Option Stored) (a b : Rebuilt) → IsRebuilt meaning header predefined lib main old new a → IsRebuilt meaning header predefined lib main other built b → reply_of a.compiled ≡ reply_of b.compiled
   one_reply old new other built a b x y =
       let f : UnitKey → Option Outcome = results_of x.made in

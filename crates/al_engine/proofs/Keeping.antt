@@ -27,7 +27,7 @@ use Rattle.al_engine.specs.declared.compiled.Program.{Program}
 use Rattle.al_engine.specs.Rebuilds.{IsRebuilt}
 use Rattle.al_engine.specs.declared.rebuilding.Rebuilt.{Rebuilt}
 
--- the parts of an item go by what the units are
+-- the parts of an item depend on what the units are
 module _ (old new : Library) (units : (key : Key) → option_map unplaced (unit_at old key) ≡ option_map unplaced (unit_at new key)) where
   some-units : (o : Option Header) → is_some o ≡ is_some (option_map unplaced o)
   some-units None = refl
@@ -77,19 +77,19 @@ module _ (old new : Library) (one : HaveOneGraph old new) where
   batch-keeps f main (TooLarge order) is = tt
   batch-keeps f main (Made program) is = partition-stays f main program is.2
 
--- .. where it reached each unit, by the outcomes of the entries that are there
+-- if the build reached each unit, these are the outcomes of the entries that there are
 pub entries-keep : (meaning : TextMeaning) (header : List ℕ → Header) (pre : Query → AnswerKind) (lib : Library) (main : List ℕ) (before entries : UnitKey → Option Stored) (gave : Rebuilt) (is : IsRebuilt meaning header pre lib main before entries gave) → ((w : UnitKey) → entries w ≡ is.made w)
     → (new : Library) → HaveOneGraph lib new → KeepsPartition new (results_of entries) main gave.compiled
 entries-keep meaning header pre lib main before entries gave is made new one =
     subst (λ (at : UnitKey → Option Stored). KeepsPartition new (results_of at) main gave.compiled) (λ i w. sym (made w) i)
     (batch-keeps lib new one (results_of is.made) main gave.compiled is.is_batch)
 
--- what is so where there is something
+-- what holds if there is an element
 pub some-is : {X : Type 0} (o : Option X) (P : Type 0) → P → IfSome o (λ _. P)
 some-is None P p = tt
 some-is (Some x) P p = p
 
--- the partition is that of this main unit, where the last build was of it
+-- the partition is that of this main unit, if the last build was of it
 pub partition-for : {X U : Type 0} (unit : Option U) (same : Option X) (main_of : X → List ℕ) (main : List ℕ) (K : List ℕ → Type 0) → MatchOption same ⊥ (λ b. main_of b ≡ main) → IfSome unit (λ _. IfSome same (λ b. K (main_of b))) → IfSome unit (λ _. K main)
 partition-for None same main_of main K is has = tt
 partition-for (Some u) None main_of main K is has = absurd is

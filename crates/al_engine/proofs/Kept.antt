@@ -1,4 +1,4 @@
--- What is wrong with the files as units stays where those that were edited break no rule.
+-- The errors of the files as units are the same, if the files that were edited break no rule.
 use Rattle.std.proofs.Common.{◌≡◌, ℕ, ◌+◌, inl, inr, Bool, true, false, List, [], ◌∷◌, ◌++◌, map, take, Option, Some, None, is_some, refl, sym, ap, subst, ◌∙◌}
 use Rattle.std.specs.List.{Contains}
 use Rattle.std.specs.Map.{keys_of}
@@ -25,14 +25,14 @@ none_is : (fs : List Finding) → is_none_found fs ≡ true → fs ≡ []
 none_is [] is = refl
 none_is (f ∷ fs) is = absurd (cc)
 
--- two files that are there with the same text, or are both not there
+-- two files that are both there with the same source, or are both not there
 texts_alike : (o n : Option Source) → option_map (λ (s : Source). unplaced_contents s.contents) o ≡ option_map (λ (s : Source). unplaced_contents s.contents) n → option_map_or (λ (s : Source). s.text) o [] ≡ option_map_or (λ (s : Source). s.text) n [] → option_map (λ (s : Source). s.text) o ≡ option_map (λ (s : Source). s.text) n
 texts_alike None None there is = refl
 texts_alike None (Some s) there is = absurd (cc)
 texts_alike (Some s) None there is = absurd (cc)
 texts_alike (Some s) (Some t) there is = ap (λ (x : List ℕ). Some x) is
 
--- what is so of the first few and of the next one
+-- what holds of the first elements and of the next one
 pub each-more : {X Y : Type 0} (f : X → Y) (P : Y → Type 0) (xs : List X) (i : ℕ) (x : X) → take (i + 1) xs ≡ take i xs ++ x ∷ [] → ((y : Y) → Contains (map f (take i xs)) y → P y) → P (f x) → (y : Y) → Contains (map f (take (i + 1) xs)) y → P y
 each-more {X} {Y} f P xs i x more before here y c =
     let of = from_map f (take (i + 1) xs) y c in
@@ -48,7 +48,7 @@ pub no-source : (lib : Library) (file : List ℕ) → source_at lib file ≡ Non
 unfolding file_faults
 no-source lib file at = rw at ascending-none
 
--- what is wrong with a file is listed in the graph
+-- the rules that a file breaks are listed in the graph
 pub listed-fault : (lib : Library) (graph : UnitGraph) → IsGraphOf lib graph → (file : List ℕ) (s : Source) → source_at lib file ≡ Some s → Contains (map file_faults_model graph.faults.items) (file, file_faults lib file)
 listed-fault lib graph of_graph file s at =
     let pair : List ℕ → List ℕ × List Finding = λ f. (f, file_faults lib f) in
@@ -56,7 +56,7 @@ listed-fault lib graph of_graph file s at =
 
 module _ (old new : Library) (edited : Edited) (graph : UnitGraph) (same : HaveSameHeaders old new) (one : HaveOneGraph old new) (alike : AreReadAlike old new) (texts : HaveTextsBut old new edited) (of_old : IsGraphOf old graph)
     (kept : (f : List ℕ × List Finding) → Contains (map file_faults_model graph.faults.items) f → IsKeptFault edited f) where
-  -- a file that breaks a rule and may have another text
+  -- a file that breaks a rule and whose source may differ
   never : (file : List ℕ) → is_none_found (file_faults old file) ≡ false → may_differ edited file → ⊥
   never file broken may = by (source_at old file) refl
     where

@@ -1,4 +1,4 @@
--- Keys in order: none more and none less, and as many where none stood twice.
+-- Keys in order: the same keys, and the same number of them if each was there once.
 use Rattle.std.proofs.Common.{◌≡◌, ◌↔◌, ◌+◌, List, [], ◌∷◌, ◌++◌, map, length, inl, inr, append_assoc, refl, sym, ap, subst, ◌∙◌, arith}
 use Rattle.std.specs.List.{Contains, fold}
 use Rattle.std.specs.Ordering.{match_ordering, nat_cmp}
@@ -53,7 +53,7 @@ pub in_order-more : (ks : List Key) (k : Key) → in_order (ks ++ k ∷ []) ≡ 
 unfolding in_order
 in_order-more ks k = fold-more (insert_key key_cmp) [] ks k
 
--- none of these stands among those before it
+-- none of these is among those before it
 abbrev pub NoneTwice : List Key → List Key → Type 0
 NoneTwice seen [] = Unit {0}
 NoneTwice seen (k ∷ ks) = (Contains seen k → ⊥) × NoneTwice (seen ++ k ∷ []) ks

@@ -1,4 +1,4 @@
--- What a build finds of the last one while it goes on.
+-- What a build finds of the last one while it is under way.
 use Rattle.std.proofs.Common.{◌≡◌, ◌||◌, Bor, Vec, IsTrue, Bool, false, List, [], ◌∷◌, Option, Some, None, IfSome, refl, sym, ap, subst, ◌∙◌}
 use Rattle.std.specs.Prelude.{MatchOption}
 use Rattle.std.specs.Option.{option_map}
@@ -21,29 +21,29 @@ entry-based None (Some h) e = absurd (cc)
 entry-based (Some h) (Some g) e = let same : base g ≡ base h = cc in ap (λ (x : Held Stored). Some x.entry) same
 
 module _ (old new : Entries) (left : IsLeft old new) where
-  -- the settled entries are those of before
+  -- the settled entries are as before
   pub settled-left : (u : UnitKey) → settled_at new u ≡ settled_at old u
   settled-left u = entry-based (state old u).settled (state new u).settled (ap (λ (s : State Stored). s.settled) (left u))
 
-  -- of which all but some are those of now
+  -- all settled entries but some are those of now
   pub others-left : (found : Option (Bor (List EditedUnit))) → IfSome found (λ edits. IsRenewal (settled_at old) (units_of edits.now) (now_at new)) → IfSome found (λ edits. (w : UnitKey) → has_unit (units_of edits.now) w ≡ false → now_at new w ≡ settled_at new w)
   others-left None is = tt
   others-left (Some edits) is = λ w k. is.others w k ∙ sym (settled-left w)
 
--- where one unit alone has another entry, all others have those that they had
+-- if exactly one unit has another entry, all other units have the same entries as before
 pub others-alone : (now settled : UnitKey → Option Stored) (edits : Option (Bor (List EditedUnit))) (unit : Option (Bor UnitKey)) → IfSome unit (λ u. MatchOption edits ⊥ (λ e. units_of e.now ≡ u.now ∷ [])) → IfSome edits (λ e. (w : UnitKey) → has_unit (units_of e.now) w ≡ false → now w ≡ settled w) → IfSome unit (λ u. (w : UnitKey) → same_unit u.now w ≡ false → now w ≡ settled w)
 others-alone now settled edits None is others = tt
 others-alone now settled None (Some u) is others = absurd is
 others-alone now settled (Some e) (Some u) is others = λ w k.
     others w (ap (λ (us : List UnitKey). has_unit us w) is ∙ ap (λ (b : Bool). b || false) (turned-unit u.now w false k))
 
--- and what is known where there are edited units is known where there is one
+-- what is known if there are edited units is known if there is one
 pub known-alone : (K : Type 0) (edits : Option (Bor (List EditedUnit))) (unit : Option (Bor UnitKey)) → IfSome unit (λ u. MatchOption edits ⊥ (λ e. units_of e.now ≡ u.now ∷ [])) → IfSome edits (λ _. K) → IfSome unit (λ _. K)
 known-alone K edits None is has = tt
 known-alone K None (Some u) is has = absurd is
 known-alone K (Some e) (Some u) is has = has
 
--- the edited units, where all others have the entries that they had
+-- the edited units, if all other units have the same entries as before
 module _ {Y : Type 0} (edited : Option (Vec EditedUnit Y)) (is_renewal : Bool) where
   abbrev Names : Option (Bor (List EditedUnit)) → Type 0
   Names found = IfSome found (λ edits. IsTrue is_renewal × MatchOption edited ⊥ (λ e. e.items ≡ edits.now))

@@ -1,4 +1,4 @@
--- What the linker takes, and what is linked.
+-- What the linker takes, and its result.
 use Rattle.std.proofs.Common.{◌≡◌, ◌<◌, ◌≤◌, ℕ, nat_lt, nat_le, true, ◌&&◌, List, [], ◌∷◌, map, length, Option, refl, sym, ap, subst, ◌∙◌, arith}
 use Rattle.std.specs.List.{All, list_all, list_any}
 use Rattle.std.proofs.lemmas.List.Sums.{AllPass-from_list_all}
@@ -82,7 +82,7 @@ pub named-keys : (us : List UnitKey) → map unit_named (map key_of us) ≡ us
 named-keys [] = refl
 named-keys (u ∷ us) = ap (λ (l : List UnitKey). u ∷ l) (named-keys us)
 
--- what linking a partition gives is what compiling gives
+-- the result of linking a partition is the result of compiling
 module _ (lib : Library) (f : UnitKey → Option Outcome) (main : List ℕ) (units : List UnitKey) (symbol : LinkSymbol) (us : List WithObject) (none : findings_of lib f ≡ []) (is : IsPartition lib f main (map key_of units) symbol us) (closed : AreClosedObjects symbol us) where
   ordered : (order : List UnitKey) → order ≡ units → IsElaboration lib main (map key_of order)
   ordered order same = subst (λ (l : List UnitKey). IsElaboration lib main (map key_of l)) (sym same) is.ordered

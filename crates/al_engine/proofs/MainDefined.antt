@@ -46,7 +46,7 @@ unfolding declaration_of
 declared_key lib n k is = declared_by n (has_declaration_file lib n) (option_map_or (λ (h : Header). is_subprogram_body h.form) (unit_at lib (n, Body)) false) k is
 
 module _ (meaning : Meaning) (s : Setting) (is_setting : IsSetting s) (main : List ℕ) (f : UnitKey → Option Outcome) (solves : Solves meaning s f) (sound : AreAllSound s f) (parts : KeepParts s f) (complete : IsComplete s.files main) (accounted : AllAccountedDefined s main f) where
-  -- where the body acts as its declaration, no declaration is there
+  -- if the body acts as its declaration, there is no declaration
   not_predefined : s.is_faultless (body main) ≡ true → has_unit predefined_units (declaration main) ≡ false
   not_predefined there = by (has_unit predefined_units (declaration main)) refl
     where

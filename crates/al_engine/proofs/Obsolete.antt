@@ -1,4 +1,4 @@
--- The list of obsolete units of two libraries that read equal texts alike.
+-- The obsolete units of two libraries that read equal sources alike.
 use Rattle.std.proofs.Common.{◌≡◌, ℕ, List, subst}
 use Rattle.al_base.specs.Batch.{Key}
 use Rattle.al_unit_graph.specs.Headers.{Library}

@@ -1,4 +1,4 @@
--- What an order of dependence and a store that is ready give a build.
+-- What an order of dependence, and a store that is ready, give a build.
 use Rattle.std.proofs.Common.{◌≡◌, ◌++◌, ◌||◌, ℕ, Bool, true, false, List, [], ◌∷◌, Option, Some, None, refl, sym, ◌∙◌, ap, subst, is_some, if◌then◌else◌}
 use Rattle.std.specs.List.{AllByRecursion, IsDistinct, list_any}
 use Rattle.std.specs.Option.{option_map}
@@ -25,7 +25,7 @@ use Rattle.al_engine_refresh.specs.Builds.{StandsAfter}
 use Rattle.al_engine_refresh.specs.Moving.{MarksFollow, last_table, now_table}
 use Rattle.al_engine.specs.Rechecks.{AreReady, HasOrder, setting_of}
 
--- a unit that stands after others is none of them
+-- a unit that comes after others is none of them
 apart-after : (s : Setting) (rank : UnitKey → ℕ) (before rest : List UnitKey) → StandsAfter s rank before rest → (u : UnitKey) → has_unit before u ≡ true → AllByRecursion (λ v. same_unit u v ≡ false) rest
 apart-after s rank before [] after u h = tt
 apart-after s rank before (v ∷ rest) after u h = (by (same_unit u v) refl, apart-after s rank (before ++ v ∷ []) rest after.3 u (list_any-append (same_unit u) before (v ∷ []) ∙ ap (λ (b : Bool). b || list_any (same_unit u) (v ∷ [])) h))
@@ -62,7 +62,7 @@ module _ (header : List ℕ → Header) (pre : Query → AnswerKind) (lib : Libr
   pub order-there : (u : UnitKey) → has_unit order u ≡ true → is_there lib u ≡ true
   order-there u h = ap is_some (has.0.headed u (faultless-after (setting_of header pre lib) has.0.rank [] order has.1.after u h))
 
--- the marks of now are those of the last build, and who is reached now is who the last build reached
+-- the marks of now are those of the last build, and a unit is reached now if the last build reached it
 module _ (pre : Query → AnswerKind) (store : Entries) (ready : AreReady pre store) where
   pub reached-alike : (u : UnitKey) → now_at store u ≡ before_at store u
   reached-alike u = ap now_of (ready.quiet u) ∙ by (state store u)

@@ -1,4 +1,4 @@
--- A subunit that is needed is part of a needed body, where no unit breaks a rule.
+-- A subunit that is needed is part of a needed body, if no unit breaks a rule.
 use Rattle.std.proofs.Common.{◌≡◌, ◌<◌, ℕ, zero, suc, ◌+◌, true, false, Bool, not, List, [], ◌∷◌, ◌++◌, length, Option, Some, None, if◌then◌else◌, refl, ap, subst, sym, ◌∙◌, arith}
 use Rattle.std.specs.Option.{is_some, option_map_or}
 use Rattle.std.specs.List.{Contains, flat_map, list_any}
@@ -27,7 +27,7 @@ use Rattle.al_unit_faults.proofs.FaultlessLemmas.{breaks_nothing}
 use Rattle.al_bind.specs.Elaboration.{IsPartOf}
 use Rattle.al_bind.specs.Elaboration.IsPartOf.{itself, subunit}
 
--- a needed body of which a unit is part
+-- the unit is part of a needed body
 pub record IsInBody (lib : Library) (main : List ℕ) (p : Key) : Type 0 where
   pub name : List ℕ
   pub needed : Needed lib main (name, Body)
@@ -60,7 +60,7 @@ module _ (lib : Library) (main : List ℕ) (named : NameParentBodies lib) (no_ru
     shorter : length m.name < length n
     shorter = subst (λ (x : List ℕ). length m.name < length x) (sym name_is) (longer m.name h.designator)
 
-    -- of a parent body
+    -- what holds of its parent body
     module _ (k : UnitKind) (is : parent_body_of lib m.name ≡ Some (m.name, k)) where
       abbrev p : Key
       p = (m.name, k)
@@ -109,7 +109,7 @@ module _ (lib : Library) (main : List ℕ) (named : NameParentBodies lib) (no_ru
       let kind : kind_of h.form ≡ Sub = ap (λ (k : Key). k.1) (at_key lib (n, Sub) h at).1 in
       some_there h.parent_body ((names (n, Sub) h at).has ∙ ap (λ (k : UnitKind). is_kind k Sub) kind)
 
-  -- by the length of its name
+  -- by induction on the length of its name
   in_body_by : (bound : ℕ) (n : List ℕ) (h : Header) → length n < bound → Needed lib main (n, Sub) → unit_at lib (n, Sub) ≡ Some h → IsInBody lib main (n, Sub)
   in_body_by zero n h less needed at = absurd (omega (arith, less))
   in_body_by (suc bound) n h less needed at =

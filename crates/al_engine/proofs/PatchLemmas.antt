@@ -1,4 +1,4 @@
--- How much of an image was written anew.
+-- How many units of an image were written anew.
 use Rattle.std.proofs.Common.{◌≡◌, Bool, true, false, ◌||◌, cond, List, [], ◌∷◌, ◌++◌, length, Option, Some, None, refl, sym, ap, ◌∙◌, arith}
 use Rattle.std.proofs.lemmas.List.{length-map, map-append}
 use Rattle.std.proofs.lemmas.Slice.Eq.{bytes_eq-Decides}
@@ -57,7 +57,7 @@ module _ (ls : List CompiledUnit) (main : LinkSymbol) (old new : LinkedImage) (s
     others = λ no. others (λ are. no (like_before are)) ∙ all_counted ls small ∙ ap (λ (us : List UnitObject). length us) (sym units_are);
   }
 
--- ---- an image that stays
+-- ---- an image that is unchanged
 
 pub differs-same : (u : UnitObject) → differs u u ≡ 0
 differs-same u = ap (λ (b : Bool). cond b 0 1) ((bytes_eq-Decides u.object.code u.object.code).1 refl)

@@ -17,7 +17,7 @@ append_nil : (l : List Key) → l ++ [] ≡ l
 append_nil [] = refl
 append_nil (k ∷ ks) = ap (λ (l : List Key). k ∷ l) (append_nil ks)
 
--- one item more
+-- one more item
 pub placed-more : (lib : Library) (items placed : List Key) (x : Key) (subunits : List Key) → ArePlaced lib items placed → AreSubunits lib x subunits → ArePlaced lib (items ++ x ∷ []) (placed ++ (x ∷ subunits))
 placed-more lib _ _ x subunits nothing are = subst (λ (l : List Key). ArePlaced lib (x ∷ []) (x ∷ l)) (append_nil subunits) (item are nothing)
 placed-more lib _ _ x subunits (item {x = y} {items = items} {subunits = mine} {placed = placed} own rest) are =

@@ -1,4 +1,4 @@
--- What a library holds to read one file alone.
+-- What a library keeps to read only one file.
 use Rattle.std.proofs.Common.{◌≡◌, ◌∙◌, ℕ, List, Option, Some, None, IfSome, option_map, sym, subst}
 use Rattle.al_base.specs.Files.{Texts}
 use Rattle.al_engine.specs.Readings.{IsEditedAt, IsReadTwice}
@@ -14,14 +14,14 @@ module _ {X S : Type 0} (files_of : X → Texts) (read_of : S → Texts) where
   edit-known files None spare (Some name) is = tt
   edit-known files (Some b) spare (Some name) is = is.edited
 
-  -- .. that is taken
+  -- a second copy that is taken
   pub spare-taken : (files : Texts) (last : Option X) (spare taken : Option S) (alone : Option (List ℕ)) → taken ≡ spare → IsReadTwice files (option_map files_of last) (option_map read_of spare) alone → IfSome taken (λ s. IfSome last (λ b. read_of s ≡ files_of b))
   spare-taken files last spare taken alone e is = subst (λ (o : Option S). IfSome o (λ s. IfSome last (λ b. read_of s ≡ files_of b))) (sym e) (spare-known files last spare alone is)
 
   pub edit-taken : (files : Texts) (last taken : Option X) (spare : Option S) (alone : Option (List ℕ)) → taken ≡ last → IsReadTwice files (option_map files_of last) (option_map read_of spare) alone → IfSome alone (λ name. IfSome taken (λ b. IsEditedAt (files_of b) name files))
   edit-taken files last taken spare alone e is = subst (λ (o : Option X). IfSome alone (λ name. IfSome o (λ b. IsEditedAt (files_of b) name files))) (sym e) (edit-known files last spare alone is)
 
-  -- what was read once more is lost
+  -- a second copy that is lost
   pub without-spare : (files : Texts) (last : Option X) (spare left : Option S) (alone : Option (List ℕ)) → left ≡ None → IsReadTwice files (option_map files_of last) (option_map read_of spare) alone → IsReadTwice files (option_map files_of last) (option_map read_of left) alone
   without-spare files last spare left alone e is = subst (λ (o : Option S). IsReadTwice files (option_map files_of last) (option_map read_of o) alone) (sym e) (record { spare_is = tt; edited = is.edited })
 

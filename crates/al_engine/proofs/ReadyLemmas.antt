@@ -1,4 +1,4 @@
--- What is kept once a build is settled.
+-- The entries once a build is settled.
 use Rattle.std.proofs.Common.{◌≡◌, ℕ, Bool, true, false, List, [], ◌∷◌, Option, Some, None, refl, sym, ◌∙◌, ap, subst, length, replicate, is_some, if◌then◌else◌}
 use Rattle.std.specs.Option.{option_map}
 use Rattle.al_base.specs.declared.unit_key.UnitKey.{UnitKey}
@@ -21,7 +21,7 @@ use Rattle.al_engine_refresh.specs.Builds.{results_of, text_of}
 use Rattle.al_engine_refresh.specs.Moving.{last_table, now_table}
 use Rattle.al_engine.specs.Rechecks.{AreReady, IsUpdated, UpdatesAreReady, setting_of}
 
--- one that was just taken over has its marks twice
+-- an entry that was just taken over has its marks twice
 based_kept : (o : Option (Held Stored)) → option_map base (option_map kept o) ≡ option_map kept o
 based_kept None = refl
 based_kept (Some h) = refl
@@ -47,7 +47,7 @@ first-settled : (m o : Option (Held Stored)) → entry_of (or_settled m o) ≡ f
 first-settled None o = refl
 first-settled (Some h) o = refl
 
--- no mark of an entry whose answers a table gives is set
+-- if a table gives the answers of an entry, none of its marks is set
 unmarked-tells : (t : Query → AnswerKind) (log : List (Query × AnswerKind)) → Agrees t log → MarksTell t log (replicate (length log) false)
 unmarked-tells t [] a = tt
 unmarked-tells t (e ∷ log) a = ((λ h. a.0, λ h. refl), unmarked-tells t log a.1)
@@ -59,7 +59,7 @@ module _ (meaning : TextMeaning) (header : List ℕ → Header) (pre : Query →
   abbrev now_of : State Stored → Option Stored
   now_of s = if s.is_reached then first_of (entry_of s.made) (entry_of s.settled) else None
 
-  -- what a build reached, as the last one
+  -- what a build reached, seen as the last build
   last-now : (s : State Stored) → (s.leaves ≡ true → s.is_reached ≡ false) → last_of (kept_state (settled_state s)) ≡ now_of s
   last-now s unreached = by s.leaves refl
     where

@@ -1,4 +1,4 @@
--- Where nothing is wrong with the files after some units alone were edited.
+-- The files have no errors after some units were edited, if nothing else was.
 use Rattle.std.proofs.Common.{◌≡◌, ◌||◌, ◌&&◌, ◌∙◌, Bor, Bool, true, false, List, [], ◌∷◌, Option, Some, None, IfSome, refl, sym, ap, subst}
 use Rattle.std.specs.List.{list_all}
 use Rattle.std.proofs.lemmas.Bool.{true≢false}

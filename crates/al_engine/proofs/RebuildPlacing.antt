@@ -1,4 +1,4 @@
--- The units that a partition needs are those that stand in its image.
+-- The units that a partition needs are those in its image.
 use Rattle.std.proofs.Common.{◌≡◌, ◌<◌, ◌⊎◌, inl, inr, ℕ, true, false, Bool, not, List, [], ◌∷◌, ◌++◌, length, get_or, Option, Some, None, if◌then◌else◌, refl, ap, subst, sym, ◌∙◌}
 use Rattle.std.specs.Option.{is_some, option_map_or}
 use Rattle.std.specs.List.{Contains}
@@ -25,12 +25,12 @@ use Rattle.al_bind.specs.Numbers.{is_node, nodes_among}
 use Rattle.al_engine.specs.Placed.{ArePlaced, AreSubunits, nothing, item}
 use Rattle.al_engine.proofs.Parts.{IsInBody, in_body, some_there}
 
--- a part of what is needed is needed
+-- a part of a needed item is needed
 part_needed : (lib : Library) (main : List ℕ) (x p : Key) → Needed lib main x → IsPartOf lib x p → Needed lib main p
 part_needed lib main x _ needed itself = needed
 part_needed lib main x _ needed (subunit {p = p} {q = q} {h = h} part at c) = needed_subunit (part_needed lib main x p needed part) at c
 
--- what stands in the image is an item or a part of one
+-- each unit in the image is an item or a part of one
 placed_needed : (lib : Library) (main : List ℕ) (items placed : List Key) → ArePlaced lib items placed → ((x : Key) → Contains items x → Needed lib main x) → (k : Key) → Contains placed k → Needed lib main k
 placed_needed lib main _ _ nothing each k c = absurd (nowhere k c)
 placed_needed lib main _ _ (item {x = x} {items = items} {subunits = subunits} {placed = placed} own more) each k c =
@@ -43,7 +43,7 @@ placed_needed lib main _ _ (item {x = x} {items = items} {subunits = subunits} {
       ]
     ]
 
--- .. and each item and each subunit that is part of one stands there
+-- each item, and each subunit that is part of one, is in the image
 part_placed : (lib : Library) (items placed : List Key) → ArePlaced lib items placed → (x p : Key) → Contains items x → IsPartOf lib x p → (p ≡ x) ⊎ (is_kind p.1 Sub ≡ true) → Contains placed p
 part_placed lib _ _ nothing x p c part kind = absurd (nowhere x c)
 part_placed lib _ _ (item {x = y} {items = items} {subunits = subunits} {placed = placed} own more) x p c part kind =
@@ -70,7 +70,7 @@ module _ (lib : Library) (main : List ℕ) (named : NameParentBodies lib) (no_ru
     abbrev piece : ℕ → List Key
     piece i = items_of lib (key_at nodes i)
 
-    -- an item is one of a node
+    -- a unit of a node is an item if the node is needed
     of_node : (node x : Key) → Needed lib main node → is_node lib node ≡ true → Contains (items_of lib node) x → Needed lib main x
     of_node (n, Decl) x needed node c = by (is_pair lib n) refl c
       where
@@ -130,7 +130,7 @@ module _ (lib : Library) (main : List ℕ) (named : NameParentBodies lib) (no_ru
             at_node (n, Decl) (n, Body) d.0 d.1 refl two
         by false pair = at_node (n, Body) (n, Body) needed there (ap not pair) (first (n, Body) [])
 
-    -- each needed unit of the library stands in the image, and only needed ones do
+    -- each needed unit of the library is in the image, and only needed ones are
     pub stands : (k : Key) → Needed lib main k → is_unit lib k ≡ true → Contains placed k
     stands (n, Decl) needed there = part_placed lib items placed are (n, Decl) (n, Decl) (needed_declaration n needed there) itself (inl refl)
     stands (n, Body) needed there = part_placed lib items placed are (n, Body) (n, Body) (needed_is_item n needed there) itself (inl refl)

@@ -1,4 +1,4 @@
--- What is kept and listed after a build.
+-- The entries and the list of checked units after a build.
 use Rattle.std.proofs.Common.{◌≡◌, inl, inr, ℕ, suc, true, List, [], ◌∷◌, ◌++◌, map, length, Option, Some, None, refl, sym, ap, subst, ◌∙◌, if◌then◌else◌}
 use Rattle.std.specs.List.{Contains}
 use Rattle.std.specs.List.Sorted.{IsStrictlySortedBy}
@@ -31,7 +31,7 @@ one-more seen before v within u c =
     ]
 
 module _ (P : UnitKey → Type 0) where
-  -- what is picked of a list
+  -- the units that are picked from a list
   pub picked-some : (order row : List UnitKey) → Picked P order row → (u : UnitKey) → Contains row u → P u
   picked-some _ _ no_units u c = absurd (nowhere u c)
   picked-some _ _ (taken {u = v} {us = us} {vs = vs} holds rest) u c =
@@ -48,7 +48,7 @@ module _ (P : UnitKey → Type 0) where
   picked-all _ _ (left {u = v} {us = us} {vs = vs} not rest) u c p =
       elim (first_or_later v us u c) as (λ _. Contains vs u) [ inl is ↦ absurd (not (subst P (sym is) p)) | inr h ↦ picked-all us vs rest u h p ]
 
-  -- of an order, none twice
+  -- no unit of an order is listed twice
   pub picked-once : (s : Setting) (rank : UnitKey → ℕ) (before order row : List UnitKey) → StandsAfter s rank before order → Picked P order row → (seen : List Key) → ((u : UnitKey) → Contains seen (key_of u) → Contains before u) → NoneTwice seen (map key_of row)
   picked-once s rank before _ _ after no_units seen within = tt
   picked-once s rank before _ _ after (taken {u = v} {us = us} {vs = vs} holds rest) seen within = (
@@ -58,7 +58,7 @@ module _ (P : UnitKey → Type 0) where
   picked-once s rank before _ _ after (left {u = v} {us = us} {vs = vs} not rest) seen within =
       picked-once s rank (before ++ v ∷ []) us vs after.3 rest seen (λ u c. Contains-append_left before (v ∷ []) u (within u c))
 
--- the entry of a unit that the build made is what there is then
+-- a unit has the entry that the build made of it
 made-first : (made other : Option Stored) (text : List ℕ) (t : Query → AnswerKind) → HasCurrent made text t → or_else made other ≡ made
 made-first None other text t has = absurd has
 made-first (Some e) other text t has = refl
@@ -88,7 +88,7 @@ module _ (meaning : TextMeaning) (header : List ℕ → Header) (s : Setting) (r
     ascend = subst (λ (ks : List Key). IsStrictlySortedBy key_cmp ks) (sym sorted) (in_order_ascends (map key_of row));
   }
 
-  -- the list is as long as many checks were made
+  -- the list is as long as there were checks
   pub as-long : length checked ≡ length row
   as-long =
       sym (length-map key_of checked) ∙ ap length sorted

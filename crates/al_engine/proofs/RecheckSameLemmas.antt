@@ -1,4 +1,4 @@
--- What is kept of units where each is as it was; and where nothing is kept.
+-- The entries of units if each is as before; and if there are none.
 use Rattle.std.proofs.Common.{◌≡◌, ◌∙◌, [], Option, None, refl, sym, ap, if◌then◌else◌}
 use Rattle.std.specs.Option.{option_map}
 use Rattle.al_base.specs.declared.unit_key.UnitKey.{UnitKey}
@@ -32,11 +32,11 @@ module _ (old new : Entries) (same : SameStates old new) where
         (ready.marks u h (sym (ap (λ (s : State Stored). s.settled) (same u)) ∙ is));
   }
 
--- a build that is cancelled leaves all as it was
+-- a build that is cancelled leaves all entries as before
 pub as-before : (pre : Query → AnswerKind) (old mid new : Entries) → AreReady pre old → IsLeft old mid → ((u : UnitKey) → state new u ≡ left_by_last (state mid u)) → SameStates old new
 as-before pre old mid new ready left ends u = ends u ∙ left u ∙ sym (ready.quiet u)
 
--- nothing is kept
+-- there are no entries
 pub ready-none : (pre : Query → AnswerKind) → AreReady pre []
 ready-none pre = record {
   quiet = λ u. refl;

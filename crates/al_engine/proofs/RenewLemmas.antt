@@ -1,4 +1,4 @@
--- What is to be linked where one unit alone has another outcome than before.
+-- What is to be linked if exactly one unit has another outcome than before.
 use Rattle.std.proofs.Common.{is_some, zero, suc, ◌≡◌, inl, inr, ℕ, true, false, Bool, ◌+◌, ◌<◌, List, [], ◌∷◌, ◌++◌, length, take, set, get_or, map, Option, Some, None, refl, sym, ap, subst, ◌∙◌, if◌then◌else◌, arith}
 use Rattle.std.proofs.lemmas.List.{length-take-le, map-append, set-append_left, set_at, take_more}
 use Rattle.al_base.specs.declared.unit_key.UnitKey.{UnitKey}
@@ -22,7 +22,7 @@ use Rattle.al_engine.specs.declared.compiled.Program.{Program}
 use Rattle.al_engine.specs.declared.planned.Planned.TheVariants.{Renewed}
 use Rattle.al_engine.specs.declared.planned.Renewal.{Renewal}
 
--- one unit has this object now, and had another one; the others have the outcomes that they had
+-- one unit has this object now, and had another one; the other units have the same outcomes as before
 module _ (f g : UnitKey → Option Outcome) (u : UnitKey) (x : WithObject) (others : (w : UnitKey) → same_unit u w ≡ false → f w ≡ g w) (sound : is_sound (g u) ≡ true) (now : objects_of u (f u) ≡ x ∷ []) where
   of-unit : (o : Option Outcome) → objects_of u o ≡ x ∷ [] → x.0 ≡ u
   of-unit None is = absurd (cc)
@@ -74,9 +74,9 @@ module _ (f g : UnitKey → Option Outcome) (u : UnitKey) (x : WithObject) (othe
         ),
       )
 
--- ---- where a unit stands among others
+-- ---- the place of a unit among others
 
--- .. among so many of them: at no place, or at one
+-- among the first units: the unit is at no place, or at one
 abbrev pub FoundTo : WithObject → List WithObject → ℕ → Option ℕ → Type 0
 FoundTo x us i None = renewed x (take i us) ≡ take i us
 FoundTo x us i (Some at) = (at < i) × (renewed x (take i us) ≡ set (take i us) at x)
@@ -110,7 +110,7 @@ module _ (x : WithObject) (us : List WithObject) (i : ℕ) (w : WithObject) (lt 
   the-only same None none h = the-one same h
   the-only same (Some at) none h = absurd (cc)
 
--- what is seen of an item
+-- what an item is seen as
 pub seen-at : {A B : Type 0} (f : A → B) (xs : List A) (i : ℕ) (x : A) → i < length xs → x ≡ get_or xs i x → f x ≡ get_or (map f xs) i (f x)
 seen-at f [] i x lt e = absurd (omega arith)
 seen-at f (y ∷ xs) zero x lt e = ap f e

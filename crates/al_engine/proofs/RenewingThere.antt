@@ -1,4 +1,5 @@
--- New entries of the edited units, under the answers that there are with them, are what a build makes where they reach nobody else.
+-- New entries of the edited units, under the answers that there are with them, are what a build makes if they reach no other
+-- unit.
 use Rattle.std.proofs.Common.{◌≡◌, inl, inr, ℕ, Bool, true, false, ◌&&◌, List, [], ◌∷◌, Option, Some, None, is_some, refl, sym, ap, subst, ◌∙◌, if◌then◌else◌}
 use Rattle.std.specs.List.{list_all}
 use Rattle.std.specs.Option.{option_map}
@@ -27,7 +28,7 @@ use Rattle.al_engine.specs.Rechecks.{HasOrder, IsRechecked, setting_of}
 use Rattle.al_engine.proofs.OrderLemmas.{faultless-after}
 use Rattle.al_engine.specs.Renewals.{AreListed, AreRenewed, RenewalsAreRechecked}
 
--- those of a list that are among some units
+-- the units of a list that are among some units
 picked_of : List UnitKey → List UnitKey → List UnitKey
 picked_of units [] = []
 picked_of units (u ∷ us) = if has_unit units u then u ∷ picked_of units us else picked_of units us
@@ -67,7 +68,7 @@ module _ (meaning : TextMeaning) (header : List ℕ → Header) (pre : Query →
       ap (λ (b : Bool). fl w && b) (now.reached w t)
       ∙ sym (λ i. was.alone.faultless (key_of w) i && list_all (λ (k : Key). is_sound (f0 (unit_named k))) (was.alone.dependences (key_of w) i))
 
-  -- who had an entry was reached
+  -- a unit that had an entry was reached
   reached-before : (u : UnitKey) → is_some (entries u) ≡ true → is_reached s0 f0 u ≡ true
   reached-before u some = by (is_reached s0 f0 u) refl
     where
@@ -95,7 +96,7 @@ module _ (meaning : TextMeaning) (header : List ℕ → Header) (pre : Query →
       by true m = now.law u e m k
       by false m = was.rechecked.law u e (sym (now.renewal.others u m) ∙ k)
 
-  -- a unit that breaks a rule has no entry, nor one outside of the order
+  -- a unit that breaks a rule has no entry, and neither has one outside of the order
   none : (u : UnitKey) → fl u ≡ false → made u ≡ None
   none u t = by (has_unit units u) refl
     where
@@ -115,7 +116,7 @@ module _ (meaning : TextMeaning) (header : List ℕ → Header) (pre : Query →
   valid-edited u None k m = absurd (true≢false (sym (now.renewal.there u m) ∙ ap is_some k))
   valid-edited u (Some e) k m = inr (e, reached-edited u m, k, now.current u e m k)
 
-  -- that of another one which is reached
+  -- the entry of another unit that is reached
   valid-other : (u : UnitKey) (o : Option Stored) → entries u ≡ o → fl u ≡ true → has_unit units u ≡ false → is_reached s0 f0 u ≡ true → HasCurrent o (text_of was.old u) (table s0 f0) → Valid meaning header lib fl pre is made f u
   valid-other u None k t m r c = absurd c
   valid-other u (Some e) k t m r c = inr (e, reached-now u t ∙ r, now.renewal.others u m ∙ k, (c.0 ∙ was.alone.texts u t m, now.unread u e m k))

@@ -1,4 +1,4 @@
--- What compiling tells is one thing.
+-- Compiling reports one result.
 use Rattle.std.proofs.Common.{◌≡◌, ◌<◌, ℕ, List, [], ◌∷◌, ◌++◌, Option, length, map, refl, sym, ap, subst, ◌∙◌, arith}
 use Rattle.std.proofs.lemmas.List.{length-map}
 use Rattle.al_base.specs.Batch.{Finding, Key, finding_of, key_of}
@@ -25,7 +25,7 @@ use Rattle.al_engine.specs.declared.compiled.Compiled.{Compiled}
 use Rattle.al_engine.specs.declared.compiled.Compiled.TheVariants as compiled
 use Rattle.al_engine.specs.Replies.{Reply, ReplyIsOne, Faulty, Unbound, TooLarge, Made, reply_of}
 
--- what stands after an item
+-- the items after an item
 record Behind (lib : Library) (x : Key) (items placed : List Key) : Type 0 where
   subunits : List Key
   rest : List Key
@@ -48,7 +48,7 @@ one_placed lib (k ∷ items) one two x y =
     let rest : a.rest ≡ b.rest = one_placed lib items a.rest b.rest a.are_placed b.are_placed in
     a.is ∙ ap (λ s. k ∷ (s ++ a.rest)) subunits ∙ ap (λ r. k ∷ (b.subunits ++ r)) rest ∙ sym b.is
 
--- something was found
+-- a list of errors that isn't empty is of a library with errors
 found_some : (found : List Diagnostic) (all : List Finding) → map finding_of found ≡ all → 0 < length found → all ≡ [] → ⊥
 found_some found all is some none = omega (arith, some, ap length is, ap length none, length-map found finding_of)
 

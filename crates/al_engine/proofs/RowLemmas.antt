@@ -1,4 +1,4 @@
--- The edited units as they stand in an order: what stands before the first of them, and after one.
+-- The edited units in an order: what comes before the first of them, and after one.
 use Rattle.std.proofs.Common.{◌≡◌, ◌||◌, ◌++◌, ◌∙◌, Bool, true, false, List, [], ◌∷◌, map, Option, Some, None, cond, refl, sym, ap, subst}
 use Rattle.std.specs.List.{AllByRecursion, Contains, IsDistinct, find}
 use Rattle.std.proofs.lemmas.Bool.{true≢false}
@@ -24,7 +24,7 @@ module _ (edits : List EditedUnit) where
   abbrev Edited : UnitKey → Type 0
   Edited u = is_edited edits u ≡ true
 
-  -- what stands before the first edited unit, and after it
+  -- what comes before the first edited unit, and after it
   pub record IsFirst (rest : List UnitKey) (u : UnitKey) (more : List UnitKey) : Type 0 where
     pub mid : List UnitKey
     pub after : List UnitKey
@@ -46,12 +46,12 @@ module _ (edits : List EditedUnit) where
       let f = first-of us u more others in
       record { mid = v ∷ f.mid; after = f.after; parts = ap (λ (xs : List UnitKey). v ∷ xs) f.parts; apart = among-more v f.mid not f.apart; edited = f.edited; others = f.others }
 
-  -- where none is picked none was edited
+  -- if none is picked, none was edited
   pub none-of : (rest : List UnitKey) → Picked Edited rest [] → (w : UnitKey) → has_unit rest w ≡ true → is_edited edits w ≡ false
   none-of _ no_units w h = absurd (true≢false (sym h))
   none-of _ (left {u = v} {us = us} not others) w h = among-more v us not (none-of us others) w h
 
--- a list with each unit once has one end after a unit
+-- in a list that has each unit once, a unit is followed by one end of the list
 pub one-end : (front before : List UnitKey) (u : UnitKey) (rest after : List UnitKey) → has_unit front u ≡ false → has_unit before u ≡ false → front ++ u ∷ rest ≡ before ++ u ∷ after → rest ≡ after
 one-end [] [] u rest after f b same = let one : u ∷ rest ≡ u ∷ after = same in cc
 one-end [] (v ∷ before) u rest after f b same =
@@ -77,7 +77,7 @@ one-end (w ∷ front) (v ∷ before) u rest after f b same =
     fewer false c k = k
     fewer true c k = absurd (true≢false k)
 
--- none is picked of units none of which was edited
+-- no unit is picked from units of which none was edited
 picks-none : (P : UnitKey → Type 0) (us : List UnitKey) → ((w : UnitKey) → has_unit us w ≡ true → P w → ⊥) → Picked P us []
 picks-none P [] never = no_units
 picks-none P (v ∷ us) never = left (never v (here v us)) (picks-none P us (λ w h. never w (there w v us h)))
@@ -110,7 +110,7 @@ picks-one u (v ∷ us) once h = by (same_unit u v) refl h (λ k. picks-one u us 
         never w (turned-unit u w false (subst (λ (x : UnitKey). same_unit x w ≡ false) (sym one) (rest-apart v us once w m))) n)))
     by false e k later = left (λ n. never v (turned-unit u v false e) n) (later k)
 
--- fewer than two edited units stand so in an order that has them
+-- fewer than two edited units are in any order that has them
 pub few-in-order : (order : List UnitKey) → IsDistinct same_unit order → (edits : List EditedUnit) → ((u : UnitKey) → is_edited edits u ≡ true → has_unit order u ≡ true) → (one : (e f : EditedUnit) (rest : List EditedUnit) → edits ≡ e ∷ f ∷ rest → ⊥) → AreInOrder order edits edits
 few-in-order order once [] within few = record {
   units = picks-none (λ u. is_edited [] u ≡ true) order (λ w m n. true≢false (sym n));
@@ -147,7 +147,7 @@ find-some (d ∷ ds) u e k = by (same_unit u d.unit) refl k (find-some ds u e)
         let is = then k in
         (later d ds e is.0, is.1, ap (λ (b : Bool). same_unit u d.unit || b) is.2 ∙ or_true (same_unit u d.unit))
 
--- one unit more of a list, which is picked or not
+-- one more unit of a list, which is picked or not
 picks-last : (P : UnitKey → Type 0) (us vs : List UnitKey) (u : UnitKey) → Picked P us vs → P u → Picked P (us ++ u ∷ []) (vs ++ u ∷ [])
 picks-last P _ _ u no_units p = taken p no_units
 picks-last P _ _ u (taken {u = v} {us = us} {vs = vs} holds rest) p = taken holds (picks-last P us vs u rest p)
@@ -162,7 +162,7 @@ units-last : (row : List EditedUnit) (e : EditedUnit) → units_of (row ++ e ∷
 units-last [] e = refl
 units-last (d ∷ ds) e = ap (λ (us : List UnitKey). d.unit ∷ us) (units-last ds e)
 
--- the edited units of an order that goes on by one unit
+-- the edited units of an order that is longer by one unit
 pub row-begins : (edits : List EditedUnit) → AreInOrder [] edits []
 row-begins edits = record { units = no_units; among = λ e c. absurd (nowhere e c) }
 

@@ -1,4 +1,4 @@
--- Libraries whose headers are the same but for places break rules in the same files, and have the same orders of dependence.
+-- Libraries with the same headers except for places break rules in the same files, and have the same orders of dependence.
 use Rattle.std.proofs.Common.{◌≡◌, ℕ, zero, suc, Bool, true, false, not, ◌&&◌, ◌||◌, List, [], ◌∷◌, ◌++◌, length, map, Option, Some, None, refl, sym, ap, subst, ◌∙◌}
 use Rattle.std.specs.Option.{is_none, option_map, option_map_or}
 use Rattle.std.specs.List.{Contains, flat_map, fold, list_any}
@@ -40,7 +40,7 @@ keyed : (o : Option Header) → option_map key_of_unit o ≡ option_map key_of_u
 keyed None = refl
 keyed (Some h) = refl
 
--- nothing is found in two lists where nothing is in either
+-- there are no errors in two lists if there are none in either
 none_both : (xs ys : List Finding) → is_none_found (xs ++ ys) ≡ (is_none_found xs && is_none_found ys)
 none_both [] ys = refl
 none_both (x ∷ xs) ys = refl
@@ -52,7 +52,7 @@ none_else (x ∷ xs) ys = refl
 both_alike : (ls ms xs ys : List Finding) → is_none_found ls ≡ is_none_found xs → is_none_found ms ≡ is_none_found ys → is_none_found (ls ++ ms) ≡ is_none_found (xs ++ ys)
 both_alike ls ms xs ys a b = none_both ls ms ∙ (λ i. a i && b i) ∙ sym (none_both xs ys)
 
--- whether a finding is made goes by no place
+-- whether there is an error doesn't depend on a place
 if_alike : (b : Bool) (file : List ℕ) (p q : Place) (code : ℕ) → is_none_found (finding_if b file p code) ≡ is_none_found (finding_if b file q code)
 if_alike true file p q code = refl
 if_alike false file p q code = refl
@@ -61,7 +61,7 @@ mentions_alike : (F : Mention → List Finding) → ((m : Mention) → is_none_f
 mentions_alike F is [] = refl
 mentions_alike F is (m ∷ ms) = both_alike (F (unplaced_mention m)) (flat_map F (map unplaced_mention ms)) (F m) (flat_map F ms) (is m) (mentions_alike F is ms)
 
--- a list in order has something where the list has
+-- a list in order isn't empty if the list isn't
 insert_some : (ks : List Finding) (f : Finding) → is_none_found (insert_key finding_cmp ks f) ≡ false
 insert_some [] f = refl
 insert_some (k ∷ ks) f = by (finding_cmp f k)
@@ -84,7 +84,7 @@ within_without : (lib : Library) (n : ℕ) (h : Header) → part_within n lib (u
 within_without lib zero h = refl
 within_without lib (suc n) h = parent_without (λ m. option_map_or (part_within n lib) (unit_at lib (m.name, Sub)) (Some m.name)) (Some h.name) (λ m. refl) h.parent_body
 
--- whether a file breaks a rule goes by no place
+-- whether a file breaks a rule doesn't depend on places
 module _ (lib : Library) (file : List ℕ) (h : Header) where
   part_without : part_of lib (unplaced h) ≡ part_of lib h
   unfolding part_of

@@ -1,4 +1,4 @@
--- What a library keeps, where all that is kept of its units is as it was.
+-- What a library keeps, if all entries of its units are as before.
 use Rattle.std.proofs.Common.{◌∙◌, ℕ, Bool, List, Option, Some, None, IfSome}
 use Rattle.al_base.specs.Files.{Texts}
 use Rattle.al_unit_graph.specs.Headers.{Header, Library}

@@ -1,4 +1,5 @@
--- Libraries whose headers are the same but for places have the same partitions: what these lack, their orders of elaboration and their cycles.
+-- Libraries with the same headers except for places have the same partitions: what these lack, their orders of elaboration and
+-- their cycles.
 use Rattle.std.proofs.Common.{◌≡◌, ℕ, false, not, ◌&&◌, List, [], ◌∷◌, ◌++◌, length, Some, refl, sym, subst, ◌∙◌, if◌then◌else◌}
 use Rattle.std.specs.Option.{option_map_or}
 use Rattle.std.specs.List.{Contains, filter, flat_map}
@@ -72,9 +73,9 @@ module _ (old new : Library) (same : HaveSameHeaders old new) where
       (λ i. option_map_or (λ h. flat_map (λ stub. of_stub x.0 stub i) h.stubs) (unit_at old x) [])
       ∙ by_unit old new same (λ h. flat_map (missing_stub new x.0) h.stubs) [] (λ h. refl) x
 
--- what holds in the one holds in the other
+-- what holds in one holds in the other
 module _ (old new : Library) (same : HaveSameHeaders old new) where
-  -- a unit of the one is one of the other, but for places
+  -- a unit of one is a unit of the other, except for places
   also : (key : Key) (h : Header) → unit_at old key ≡ Some h → (k : Header) × (unit_at new key ≡ Some k) × (unplaced h ≡ unplaced k)
   also key h is = there_too (unit_at old key) (unit_at new key) (the_unit_at old new same key) h is
 
@@ -134,7 +135,7 @@ module _ (old new : Library) (same : HaveSameHeaders old new) where
   lacking_subunit : {main name : List ℕ} → LacksSubunit old main name → LacksSubunit new main name
   lacking_subunit {main} {name} is = (is.0, needed is.1, subst (λ (ns : List (List ℕ)). Contains ns name) (stubs old new same is.0) is.2)
 
--- a relation that holds of the same numbers orders them alike
+-- a relation that holds of the same numbers orders them in the same way
 free : (B C : ℕ → ℕ → Type 0) → ((a b : ℕ) → C a b → B a b) → (count : ℕ) (there : List ℕ) (a : ℕ) → IsFree count B there a → IsFree count C there a
 free B C from count there a is = (is.0, is.1, λ b before. is.2 b (from a b before))
 

@@ -1,4 +1,4 @@
--- Libraries whose headers are the same but for places have the same units, and these depend on the same ones.
+-- Libraries with the same headers except for places have the same units, and these depend on the same units.
 use Rattle.std.proofs.Common.{◌≡◌, ℕ, Bool, true, false, not, ◌&&◌, List, [], ◌∷◌, ◌++◌, map, Option, Some, None, refl, sym, ap, ◌∙◌, if◌then◌else◌}
 use Rattle.std.specs.Option.{is_some, option_and_then, option_map, option_map_or}
 use Rattle.std.specs.List.{flat_map}
@@ -12,12 +12,12 @@ use Rattle.al_unit_graph.specs.Dependence.{listed, parent_declaration, own_decla
 use Rattle.al_unit_graph.specs.Needed.{present, body_of, subunits_of}
 use Rattle.al_engine.specs.GraphGraphs.{HaveSameHeaders, unplaced, unplaced_contents, unplaced_mention}
 
--- what goes by no place is the same of a header without places
+-- what doesn't depend on places is the same of a header without places
 pub without : {X : Type 0} (F : Header → X) (none : X) → ((h : Header) → F (unplaced h) ≡ F h) → (o : Option Header) → option_map_or F o none ≡ option_map_or F (option_map unplaced o) none
 without F none is None = refl
 without F none is (Some h) = sym (is h)
 
--- .. and of a mention without its place
+-- what doesn't depend on a place is the same of a mention without its place
 pub parent_without : {X : Type 0} (F : Mention → X) (none : X) → ((m : Mention) → F (unplaced_mention m) ≡ F m) → (o : Option Mention) → option_map_or F (option_map unplaced_mention o) none ≡ option_map_or F o none
 parent_without F none is None = refl
 parent_without F none is (Some m) = is m
@@ -56,7 +56,7 @@ of_key_unplaced : (key : Key) (o : Option Header) → option_map unplaced (optio
 of_key_unplaced key None = refl
 of_key_unplaced key (Some h) = if_unplaced _ h
 
--- what a unit depends on goes by no place
+-- what a unit depends on doesn't depend on places
 parents_without : (lib : Library) (h : Header) (parent : Option Mention) → parent_dependences lib (unplaced h) (option_map unplaced_mention parent) ≡ parent_dependences lib h parent
 parents_without lib h None = refl
 parents_without lib h (Some parent) = refl
@@ -77,7 +77,7 @@ module _ (old new : Library) (same : HaveSameHeaders old new) where
   the_unit_at key =
       of_key_unplaced key (unit_in old (file_name_of key)) ∙ (λ i. option_and_then (of_key key) (the_unit_in (file_name_of key) i)) ∙ sym (of_key_unplaced key (unit_in new (file_name_of key)))
 
-  -- what goes by a unit, and not by its places, is the same
+  -- what depends on a unit, and not on its places, is the same
   pub by_unit : {X : Type 0} (F : Header → X) (none : X) → ((h : Header) → F (unplaced h) ≡ F h) → (key : Key) → option_map_or F (unit_at old key) none ≡ option_map_or F (unit_at new key) none
   by_unit F none is key = without F none is (unit_at old key) ∙ (λ i. option_map_or F (the_unit_at key i) none) ∙ sym (without F none is (unit_at new key))
 
@@ -138,6 +138,6 @@ module _ (old new : Library) (same : HaveSameHeaders old new) where
   pub the_subunits_of : (name : List ℕ) (h k : Header) → unplaced h ≡ unplaced k → subunits_of old name h ≡ subunits_of new name k
   the_subunits_of name h k is = (λ i. flat_map (λ stub. present_alike (name ++ 46 ∷ stub, Sub) i) h.stubs) ∙ ap (subunits_of new name) is
 
--- the same the other way round
+-- the same, the other way round
 pub back : (old new : Library) → HaveSameHeaders old new → HaveSameHeaders new old
 back old new same = record { files = sym same.files; contents = λ file. sym (same.contents file) }

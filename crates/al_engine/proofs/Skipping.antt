@@ -1,4 +1,5 @@
--- Units that nobody edited, and that are not reached by what was checked, are as a build leaves them: a walk over an order may skip them.
+-- Units that weren't edited, and aren't reached by what was checked, are as a build leaves them: a walk over an order may skip
+-- them.
 use Rattle.std.proofs.Common.{◌≡◌, ◌⊎◌, inl, inr, ℕ, ◌<◌, Bool, true, false, ◌&&◌, ◌||◌, List, [], ◌∷◌, ◌++◌, Option, Some, None, append-nil, append_assoc, is_some, refl, sym, ap, subst, ◌∙◌, if◌then◌else◌}
 use Rattle.std.specs.List.{list_all}
 use Rattle.std.specs.Option.{option_map}
@@ -30,23 +31,23 @@ use Rattle.al_engine.specs.Rechecks.{HasOrder, setting_of}
 use Rattle.al_engine.specs.RecheckEdits.{IsForAnother, IsRenewable}
 use Rattle.al_engine.proofs.OrderLemmas.{faultless-after}
 
--- of units none of which is picked
+-- none of these units is picked
 left-each : (P : UnitKey → Type 0) (us : List UnitKey) → ((w : UnitKey) → has_unit us w ≡ true → P w → ⊥) → Picked P us []
 left-each P [] never = no_units
 left-each P (v ∷ us) never = left (never v (has_unit-first v us)) (left-each P us (λ w h. never w (in-rest v us w h)))
 
--- none is picked of units that come more
+-- no more units are picked, if the list is longer by units that aren't picked
 picked-more : (P : UnitKey → Type 0) (us more vs : List UnitKey) → Picked P us vs → ((w : UnitKey) → has_unit more w ≡ true → P w → ⊥) → Picked P (us ++ more) vs
 picked-more P _ more _ no_units never = left-each P more never
 picked-more P _ more _ (taken {u = v} {us = us} {vs = vs} holds rest) never = taken holds (picked-more P us more vs rest never)
 picked-more P _ more _ (left {u = v} {us = us} {vs = vs} not rest) never = left not (picked-more P us more vs rest never)
 
--- the rest of an order stands after its beginning
+-- the rest of an order comes after its beginning
 stands-from : (s : Setting) (rank : UnitKey → ℕ) (seen before rest : List UnitKey) → StandsAfter s rank seen (before ++ rest) → StandsAfter s rank (seen ++ before) rest
 stands-from s rank seen [] rest after = subst (λ (us : List UnitKey). StandsAfter s rank us rest) (sym (append-nil seen)) after
 stands-from s rank seen (v ∷ before) rest after = subst (λ (us : List UnitKey). StandsAfter s rank us rest) (append_assoc seen (v ∷ []) before) (stands-from s rank (seen ++ v ∷ []) before rest after.3)
 
--- before a unit of the beginning stand all of lower rank
+-- all units of lower rank come before a unit of the beginning
 lower-before : (s : Setting) (rank : UnitKey → ℕ) (seen before rest : List UnitKey) → StandsAfter s rank seen (before ++ rest) → (w : UnitKey) → has_unit before w ≡ true → (d : UnitKey) → s.is_faultless d ≡ true → rank d < rank w → has_unit (seen ++ before) d ≡ true
 lower-before s rank seen [] rest after w h d t less = absurd (true≢false (sym h))
 lower-before s rank seen (v ∷ before) rest after w h d t less = by (same_unit w v) refl h (λ k. lower-before s rank (seen ++ v ∷ []) before rest after.3 w k d t less)
@@ -55,7 +56,7 @@ lower-before s rank seen (v ∷ before) rest after w h d t less = by (same_unit 
     by true e k later = has_unit-left seen (v ∷ before) d (after.2 d t (subst (λ (x : UnitKey). rank d < rank x) (same_unit-one w v e) less))
     by false e k later = subst (λ (us : List UnitKey). has_unit us d ≡ true) (append_assoc seen (v ∷ []) before) (later k)
 
--- what there is of a unit among others
+-- a unit that has no entry has none among others
 within-none : (b : Bool) (o : Option Stored) → o ≡ None → (if b then o else None) ≡ None
 within-none true o e = e
 within-none false o e = refl
@@ -64,7 +65,7 @@ within-some : (b : Bool) (o : Option Stored) (d : Stored) → (if b then o else 
 within-some true o d e = e
 within-some false o d e = absurd (cc)
 
--- who stands after others is none of them
+-- a unit that comes after others is none of them
 apart-before : (s : Setting) (rank : UnitKey → ℕ) (seen mid rest : List UnitKey) → StandsAfter s rank seen (mid ++ rest) → (w : UnitKey) → has_unit mid w ≡ true → has_unit seen w ≡ false
 apart-before s rank seen [] rest after w h = absurd (true≢false (sym h))
 apart-before s rank seen (v ∷ mid) rest after w h = by (same_unit w v) refl h (λ k. apart-before s rank (seen ++ v ∷ []) mid rest after.3 w k)
@@ -101,7 +102,7 @@ module _ (meaning : TextMeaning) (header : List ℕ → Header) (pre : Query →
   pub none-faulty : (w : UnitKey) → fl w ≡ false → entries w ≡ None
   none-faulty w t = was.rechecked.unreached w (ap (λ (b : Bool). b && has_sound_dependences was.old f0 w) (was.alone.faultless (key_of w) ∙ t))
 
-  -- who has an entry was reached
+  -- a unit that has an entry was reached
   reached-some : (w : UnitKey) → is_some (entries w) ≡ true → is_reached s1 f0 w ≡ true
   reached-some w some = by (is_reached s0 f0 w) refl
     where
@@ -115,7 +116,7 @@ module _ (meaning : TextMeaning) (header : List ℕ → Header) (pre : Query →
   pub sound-some : (w : UnitKey) → is_some (entries w) ≡ true → has_sound_dependences new f0 w ≡ true
   sound-some w some = (both (fl w) (has_sound_dependences new f0 w) (reached-some w some)).1
 
-  -- an edited unit has an entry, which is for another text
+  -- an edited unit has an entry, which is for another source
   pub edited-some : (w : UnitKey) → has_unit units w ≡ true → is_some (entries w) ≡ true
   edited-some w h = let e = was.alone.edited w h in ap is_some e.1
 
@@ -124,7 +125,7 @@ module _ (meaning : TextMeaning) (header : List ℕ → Header) (pre : Query →
       let e = was.alone.edited w h in
       e.2 (subst (λ (o : Option Stored). HasCurrent o (text_of new w) t) e.1 c).0
 
-  -- who has an entry is in the library, and in the order
+  -- a unit that has an entry is in the library, and in the order
   pub there-some : (w : UnitKey) → is_some (entries w) ≡ true → is_there new w ≡ true
   there-some w some = ap is_some (is.headed w (faultless-some w some))
 
@@ -138,7 +139,7 @@ module _ (meaning : TextMeaning) (header : List ℕ → Header) (pre : Query →
       by None e = e
       by (Some d) e = absurd (true≢false (sym (in-order w (ap is_some e)) ∙ out))
 
-  -- these are done, and the entries of all are these now
+  -- these units are done, and the entries of all units are these now
   module _ (at : UnitKey → Option Stored) (before mid rest checked : List UnitKey) (p : Progress meaning header new fl pre is entries (within before at) before (mid ++ rest) checked)
       (others : (w : UnitKey) → has_unit before w ≡ false → at w ≡ entries w)
       (apart : (w : UnitKey) → has_unit mid w ≡ true → has_unit units w ≡ false)
@@ -150,7 +151,7 @@ module _ (meaning : TextMeaning) (header : List ℕ → Header) (pre : Query →
     abbrev done : List UnitKey
     done = before ++ mid
 
-    -- the entries of those that are done, before and then
+    -- the entries of the units that are done, before and then
     abbrev at0 : UnitKey → Option Stored
     at0 = within before at
 
@@ -167,7 +168,7 @@ module _ (meaning : TextMeaning) (header : List ℕ → Header) (pre : Query →
         or_true true = refl
         or_true false = refl
 
-    -- who is done stands before or among those that are skipped
+    -- a unit that is done comes before the skipped ones or is among them
     which : (w : UnitKey) → has_unit done w ≡ true → (has_unit before w ≡ true) ⊎ ((has_unit before w ≡ false) × (has_unit mid w ≡ true))
     which w m = by (has_unit before w) refl
       where
@@ -207,12 +208,12 @@ module _ (meaning : TextMeaning) (header : List ℕ → Header) (pre : Query →
     reached-now : (w : UnitKey) → fl w ≡ true → is_reached s1 f w ≡ is_reached s0 f0 w
     reached-now w t = ap (λ (b : Bool). fl w && b) (reached w t) ∙ sym (reached-as w)
 
-    -- what there was of a unit that is skipped and reached
+    -- the entry of a unit that is skipped and reached is as before
     found : (w : UnitKey) (o : Option Stored) → entries w ≡ o → at w ≡ entries w → fl w ≡ true → has_unit units w ≡ false → is_reached s0 f0 w ≡ true → HasCurrent o (text_of was.old w) (table s0 f0) → Valid meaning header new fl pre is at f w
     found w None k same t n r c = absurd c
     found w (Some d) k same t n r c = inr (d, reached-now w t ∙ r, same ∙ k, (c.0 ∙ was.alone.texts w t n, agree w d k))
 
-    -- it is as it should be, as long as the outcomes are these
+    -- it is as it should be, as long as these are the outcomes
     valid-mid : (w : UnitKey) → has_unit before w ≡ false → has_unit mid w ≡ true → Valid meaning header new fl pre is at f w
     valid-mid w out m = by (is_reached s0 f0 w) refl
       where
@@ -220,12 +221,12 @@ module _ (meaning : TextMeaning) (header : List ℕ → Header) (pre : Query →
         by true r = found w (entries w) refl (others w out) (there-mid w m) (apart w m) r (was.rechecked.current w r)
         by false r = inl (reached-now w (there-mid w m) ∙ r, others w out ∙ was.rechecked.unreached w r)
 
-    -- with other entries that are the same of this unit
+    -- the same with other entries, if those of this unit are equal
     valid-at : (a b : UnitKey → Option Stored) (g : UnitKey → Option Outcome) (w : UnitKey) → a w ≡ b w → Valid meaning header new fl pre is a g w → Valid meaning header new fl pre is b g w
     valid-at a b g w same (inl v) = inl (v.0, sym same ∙ v.1)
     valid-at a b g w same (inr v) = inr (v.0, v.1, sym same ∙ v.2, v.3)
 
-    -- the outcomes of now fit those that are done
+    -- the outcomes of now fit the units that are done
     fits-now : Fits meaning header new fl pre is entries at0 before f
     fits-now d (inl m) = ap (option_map outcome_of) (sym (kept0 d m))
     fits-now d (inr t) = ap (option_map outcome_of) (none d t ∙ sym (within-none (has_unit before d) (at d) (none d t)))

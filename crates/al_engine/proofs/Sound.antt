@@ -1,4 +1,4 @@
--- Where nothing is found wrong with the files of a library, each of its units breaks no rule, and its check found no fault.
+-- If the files of a library have no errors, each of its units breaks no rule, and its check found no error.
 use Rattle.std.proofs.Common.{◌≡◌, ◌<◌, ℕ, nat_lt, true, false, Bool, List, [], ◌∷◌, ◌++◌, map, length, Option, Some, None, refl, ap, subst, sym, ◌∙◌}
 use Rattle.std.specs.Option.{is_some, option_map_or}
 use Rattle.std.specs.List.{Contains, flat_map}
@@ -28,7 +28,7 @@ some_there : {X : Type 0} (o : Option X) → is_some o ≡ true → (x : X) × (
 some_there None is = absurd (cc)
 some_there (Some x) is = (x, refl)
 
--- a list that is empty has no part
+-- a part of an empty list is empty
 none_in : {X Y : Type 0} (g : X → List Y) (xs : List X) (x : X) → Contains xs x → flat_map g xs ≡ [] → g x ≡ []
 none_in {X = X} {Y = Y} g xs x c none = at (g x) refl
   where
@@ -40,7 +40,7 @@ neither : (a b : List Finding) → or_else a b ≡ [] → (a ≡ []) × (b ≡ [
 neither [] b none = (refl, none)
 neither (f ∷ fs) b none = absurd (cc)
 
--- a check that found no fault in a file is sound
+-- a check that found no error in a file is sound
 some_fault : (file : List ℕ) (faults : List Diagnostic) → nat_lt 0 (length faults) ≡ true → checked_findings file faults ≡ [] → ⊥
 some_fault file [] some none = cc
 some_fault file (d ∷ ds) some none =
@@ -53,7 +53,7 @@ sound_by file u (Some (Faulty faults)) fit none = absurd (some_fault file faults
 sound_by file u (Some (Sound interface tree)) fit none = refl
 
 module _ (lib : Library) (f : UnitKey → Option Outcome) (fit : (u : UnitKey) (p : Outcome) → f u ≡ Some p → FaultsFit u p) (none : findings_of lib f ≡ []) where
-  -- nothing is found in a file
+  -- there is no error in a file
   none_told : (file : List ℕ) (source : Source) → source_at lib file ≡ Some source → file_findings lib f file ≡ []
   unfolding findings_of
   none_told file source there =
@@ -69,7 +69,7 @@ module _ (lib : Library) (f : UnitKey → Option Outcome) (fit : (u : UnitKey) (
       let n = neither (file_faults lib file) (option_map_or (told file) (source_at lib file) []) (none_told file source there) in
       (n.0, sym (ap (λ o. option_map_or (told file) o []) there) ∙ n.1)
 
-  -- of a unit
+  -- there is no error in a unit
   pub no_rule_broken : (key : Key) (h : Header) → unit_at lib key ≡ Some h → is_faultless lib key ≡ true
   no_rule_broken key h at =
       let held = in_file lib (file_name_of key) h (at_key lib key h at).0 in

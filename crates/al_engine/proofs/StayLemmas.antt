@@ -17,7 +17,7 @@ entry-base : (o : Option (Held Stored)) → entry_of (option_map base o) ≡ ent
 entry-base None = refl
 entry-base (Some h) = refl
 
--- what the last build settled stays while a build goes on
+-- what the last build settled is unchanged while a build is under way
 pub settled-left : (old new : Entries) → IsLeft old new → (u : UnitKey) → settled_at new u ≡ settled_at old u
 settled-left old new left u = sym (entry-base (state new u).settled) ∙ ap (λ (s : State Stored). entry_of s.settled) (left u) ∙ entry-base (state old u).settled
 

@@ -18,7 +18,7 @@ use Rattle.al_engine.specs.declared.planned.Planned.TheVariants as plans
 use Rattle.al_engine.specs.Graphs.{AreElaborations, IsOrderOf}
 use Rattle.al_engine.specs.declared.orders.KnownOrder.{KnownOrder}
 
--- a build that was found to be the last one is as that one is
+-- a build that was found to be the last one has what that one has
 pub first_of : {X B : Type 0} (last : Option B) (now : X → B) (A C : B → Type 0) (Q : X → Type 0) (same : Option X)
     → IfSome same (λ b. (last ≡ Some (now b)) × Q b) → IfSome last (λ b. A b × C b) → IfSome same (λ b. A (now b) × Q b)
 first_of last now A C Q None is has = tt
@@ -41,7 +41,7 @@ pub besides : {X B : Type 0} (last : Option B) (now : X → B) (Q : X → Type 0
 besides last now Q None is = tt
 besides last now Q (Some b) is = is.1
 
--- what is so of what there is
+-- what holds if there is an element holds of this one
 pub some_has : {X : Type 0} (o : Option X) (x : X) (P : X → Type 0) → o ≡ Some x → IfSome o P → P x
 some_has {X} o x P is has = subst (λ (p : Option X). IfSome p P) is has
 
@@ -55,23 +55,23 @@ graph_stays old new graph one same is = record {
 pub orders_stay : (old new : Library) (orders : List KnownOrder) → HaveOneGraph old new → AreElaborations old orders → AreElaborations new orders
 orders_stay old new orders one are o c = one.elaboration o.main (map key_of o.order.items) (are o c)
 
--- the order that was found among these is one of elaboration
+-- the order that was found among these is an order of elaboration
 pub orders_for : (lib : Library) (main : List ℕ) (orders : List KnownOrder) (found : Option (Bor (List UnitKey))) → AreElaborations lib orders → IfSome found (λ order. (l : Library) → AreElaborations l orders → IsElaboration l main (map key_of order.now)) → IfSome found (λ order. IsElaboration lib main (map key_of order.now))
 orders_for lib main orders None are is = tt
 orders_for lib main orders (Some order) are is = is lib are
 
--- no order is known
+-- no order is kept
 pub no_orders : (lib : Library) → AreElaborations lib []
 no_orders lib o c = absurd (nowhere o c)
 
--- one order more
+-- one more order is kept
 pub order_more : (lib : Library) (orders : List KnownOrder) (known : KnownOrder) → AreElaborations lib orders → IsElaboration lib known.main (map key_of known.order.items) → AreElaborations lib (orders ++ known ∷ [])
 order_more lib orders known are is o c = elim (Contains-append_cases orders (known ∷ []) o c) as (λ _. IsElaboration lib o.main (map key_of o.order.items)) [
   | inl h ↦ are o h
   | inr h ↦ subst (λ (k : KnownOrder). IsElaboration lib k.main (map key_of k.order.items)) (the_one known o h) is
 ]
 
--- the order of a partition that is planned is one of elaboration
+-- the order of a partition that is planned is an order of elaboration
 pub planned_orders : (lib : Library) (f : UnitKey → Option Outcome) (main : List ℕ) (before : Compiled) (planned : Planned) → IsPlanned lib f main before planned → IsOrderOf lib main planned
 planned_orders lib f main before (plans.Faulty diagnostics) is = tt
 planned_orders lib f main before (plans.Unbound fault) is = tt

@@ -24,7 +24,7 @@ used_by (Line n) = []
 abbrev pub used : List Piece → List LinkSymbol
 used ps = flat_map used_by ps
 
--- what code uses is what was noted of it
+-- code uses the symbols that were noted for it
 symbol_of : (from : ℕ) (p : Piece) → map (λ (r : Relocation). r.symbol) (use_at from p) ≡ used_by p
 symbol_of from (Whole i) = refl
 symbol_of from (Using i symbol) = refl
@@ -39,7 +39,7 @@ symbols_used from (p ∷ ps) =
     ∙ ap (λ (xs : List LinkSymbol). xs ++ map (λ (r : Relocation). r.symbol) (uses_from (from + piece_size p) ps)) (symbol_of from p)
     ∙ ap (λ (xs : List LinkSymbol). used_by p ++ xs) (symbols_used (from + piece_size p) ps)
 
--- pieces use only these
+-- pieces use only these symbols
 pub record Uses (ps : List Piece) (xs : List LinkSymbol) : Type 0 where
   pub are : (x : LinkSymbol) → Contains (used ps) x → Contains xs x
 
@@ -65,7 +65,7 @@ left {p = p} {xs = xs} ys h = record { are = λ x c. Contains-append_left xs ys 
 pub right : {p : List Piece} {ys : List LinkSymbol} (xs : List LinkSymbol) → Uses p ys → Uses p (xs ++ ys)
 right {p = p} {ys = ys} xs h = record { are = λ x c. Contains-append_right xs ys x (h.are x c) }
 
--- an instruction, a jump and a symbol that stands there use nothing
+-- an instruction, a jump and a symbol that is defined there use nothing
 pub whole : {i : Instr} {xs : List LinkSymbol} → Uses (Whole i ∷ []) xs
 whole = quiet refl
 
@@ -99,17 +99,17 @@ pub around : {p : List Piece} {xs : List LinkSymbol} → Uses p xs → Uses (rep
 unfolding repeated
 around {p = p} {xs = xs} h = then {p = p} {q = back (size p) ∷ []} {xs = xs} h (quiet refl)
 
--- a list of codes one after the other
+-- codes one after another
 pub each : {A : Type 0} (f : A → List Piece) (xs : List LinkSymbol) → ((a : A) → Uses (f a) xs) → (as_ : List A) → Uses (flat_map f as_) xs
 each f xs h [] = nothing
 each f xs h (a ∷ as_) = then {p = f a} {q = flat_map f as_} {xs = xs} (h a) (each f xs h as_)
 
--- the same, where each uses what is its own
+-- codes one after another, each of which uses its own symbols
 pub each_own : {A : Type 0} (f : A → List Piece) (g : A → List LinkSymbol) → ((a : A) → Uses (f a) (g a)) → (as_ : List A) → Uses (flat_map f as_) (flat_map g as_)
 each_own f g h [] = nothing
 each_own f g h (a ∷ as_) = then {p = f a} {q = flat_map f as_} {xs = g a ++ flat_map g as_} (left _ (h a)) (right (g a) (each_own f g h as_))
 
--- ---- where symbols stand among those of several parts
+-- ---- the symbols of several parts
 
 module _ (as_ bs cs : List LinkSymbol) (x : LinkSymbol) where
   -- of the first or the last of three

@@ -27,7 +27,7 @@ use Rattle.al_engine.proofs.Used.{Uses, begins, each, each_own, end_of, left, no
 use Rattle.al_engine.proofs.UsedExpressions.{guarded_used, place_used}
 use Rattle.al_engine.proofs.UsedStatements.{declarations_used, mark_quiet, statements_used}
 
--- ---- what is inside of a body
+-- ---- inside a body
 
 begun_quiet : (b : Bool) {xs : List LinkSymbol} → Uses (begun_code b) xs
 begun_quiet true = quiet refl
@@ -60,7 +60,7 @@ barrier_used : (depth : ℕ) (barrier : ObjectPlace) → Uses (barrier_code dept
 unfolding barrier_code
 barrier_used depth barrier = then (place_used Data depth barrier) whole
 
--- an entry's body and its barrier, of an object
+-- an entry's body and its barrier, in an object
 module _ (depth : ℕ) (object entry : Symbol) (barrier : ObjectPlace) where
   abbrev these : List LinkSymbol
   these = link links.Protected object ∷ link EntryBody entry ∷ place_uses Data barrier

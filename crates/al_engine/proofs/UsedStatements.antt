@@ -90,7 +90,7 @@ declaration_used depth (SingleProtected symbol values) = components_used depth s
 pub declarations_used : (depth : ℕ) (ds : List DeclarationTree) → Uses (declarations_code depth ds) (declarations_uses ds)
 declarations_used depth ds = each_own (declaration_code depth) (λ d. declaration_form_uses d.form) (λ d. then (mark_quiet (declaration_has_code d.form) d.line) (declaration_used depth d.form)) ds
 
--- ---- what is put out
+-- ---- output
 
 image_used : (depth : ℕ) (p : PieceTree) → Uses (image_code depth p) (piece_uses p)
 image_used depth (TextPiece bytes) = nothing

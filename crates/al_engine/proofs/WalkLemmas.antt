@@ -57,11 +57,11 @@ or_true : (b : Bool) → (b || true) ≡ true
 or_true true = refl
 or_true false = refl
 
--- who is in a list is in one that goes on before or after it
+-- a unit of a list is in every longer list with it
 in-end : (us vs : List UnitKey) (w : UnitKey) → has_unit vs w ≡ true → has_unit (us ++ vs) w ≡ true
 in-end us vs w h = list_any-append (same_unit w) us vs ∙ ap (λ (b : Bool). has_unit us w || b) h ∙ or_true (has_unit us w)
 
--- who isn't in a list with one unit more
+-- a unit isn't in a list that is longer by one unit
 not-more : (us : List UnitKey) (v w : UnitKey) → has_unit (us ++ v ∷ []) w ≡ false → (has_unit us w ≡ false) × (same_unit w v ≡ false)
 not-more us v w h = by (has_unit us w) (same_unit w v) refl refl (sym (list_any-append (same_unit w) us (v ∷ [])) ∙ h)
   where
@@ -70,7 +70,7 @@ not-more us v w h = by (has_unit us w) (same_unit w v) refl refl (sym (list_any-
     by true b e k n = absurd (true≢false n)
     by false true e k n = absurd (true≢false n)
 
--- who is in it, is in the list, or is that unit
+-- a unit of a list that is longer by one unit is in the list, or is that unit
 one-more : (us : List UnitKey) (v w : UnitKey) → has_unit (us ++ v ∷ []) w ≡ true → (has_unit us w ≡ true) ⊎ (w ≡ v)
 one-more us v w h = by (has_unit us w) (same_unit w v) refl refl (sym (list_any-append (same_unit w) us (v ∷ [])) ∙ h)
   where
@@ -85,7 +85,7 @@ unfolding IsDistinct
 once-after [] vs once = once
 once-after (v ∷ us) vs once = once-after us vs once.1
 
--- one check more
+-- one more check
 pub one-counted : (n m before : ℕ) (checked more : List UnitKey) (u : UnitKey) → m ≡ one_more before → before ≡ raised n (length checked) → more ≡ checked ++ u ∷ [] → m ≡ raised n (length more)
 one-counted n m before checked more u is was added =
     let long : length more ≡ length checked + 1 = ap length added ∙ length-append checked (u ∷ []) in
@@ -110,11 +110,11 @@ module _ (meaning : TextMeaning) (header : List ℕ → Header) (pre : Query →
   abbrev Walked : Entries → List UnitKey → List UnitKey → List UnitKey → Type 0
   Walked = IsWalked meaning header pre lib order has edits old
 
-  -- all that have an entry are reached
+  -- all units that have an entry are reached
   now-settled : (w : UnitKey) → now_at old w ≡ settled_at old w
   now-settled w = reached-alike pre old ready w ∙ given.reached w
 
-  -- no unit leaves, and nothing is made yet
+  -- no unit leaves, and no entry is made yet
   leaving-old : AreLeaving lib old
   leaving-old = record {
     leaves = λ w. still w ∙ sym (none w (is_some (state old w).settled) refl);
@@ -172,7 +172,7 @@ module _ (meaning : TextMeaning) (header : List ℕ → Header) (pre : Query →
           absurd (cc)
 
   module _ (now : Entries) (left : IsLeft old now) (marks : MarksFollow pre now) (as_before : AreMarkedAsBefore now) where
-    -- and where no mark is another one, those of now
+    -- if no mark differs, they have those of now
     agrees-held : (w : UnitKey) (h g : Held Stored) → (state old w).settled ≡ Some h → (state now w).settled ≡ Some g → base g ≡ base h → Agrees (now_table pre now) (log_of h.entry)
     agrees-held w h g was here same =
         let marked : g.marks.now ≡ h.marks.last = as_before w g here ∙ ap (λ (x : Held Stored). x.marks.last) same in
@@ -197,7 +197,7 @@ module _ (meaning : TextMeaning) (header : List ℕ → Header) (pre : Query →
             let entry : h.entry ≡ d = cc in
             subst (λ (x : Stored). Agrees (now_table pre now) x.log) entry (agrees-held w h g was here one)
 
-  -- who isn't done has the entry that there was
+  -- a unit that isn't done has the same entry as before
   others-before : (now : Entries) (before rest checked : List UnitKey) → Walked now before rest checked → (w : UnitKey) → has_unit before w ≡ false → now_at now w ≡ settled_at old w
   others-before now before rest checked walked w out = by (has_unit checked w) refl
     where
@@ -205,7 +205,7 @@ module _ (meaning : TextMeaning) (header : List ℕ → Header) (pre : Query →
       by true m = absurd (true≢false (sym (walked.among w m).0 ∙ out))
       by false m = walked.others w m
 
-  -- who isn't in the order has none
+  -- a unit that isn't in the order has none
   out-none : (now : Entries) (before rest checked : List UnitKey) → Walked now before rest checked → (w : UnitKey) → has_unit (before ++ rest) w ≡ false → now_at now w ≡ None
   out-none now before rest checked walked w out = by (has_unit before w) refl
     where
@@ -213,7 +213,7 @@ module _ (meaning : TextMeaning) (header : List ℕ → Header) (pre : Query →
       by true m = absurd (true≢false (sym (has_unit-left before rest w m) ∙ out))
       by false m = others-before now before rest checked walked w m ∙ none-out meaning header pre lib order units (settled_at old) has given.renewable w (ap (λ (us : List UnitKey). has_unit us w) walked.parts ∙ out)
 
-  -- units that nobody edited are skipped, where no other unit was reached by what was checked
+  -- units that weren't edited are skipped, if what was checked reached no other unit
   pub skips : (now : Entries) (before mid rest checked : List UnitKey) → Walked now before (mid ++ rest) checked → IsUnread lib old now → ((w : UnitKey) → has_unit mid w ≡ true → is_edited edits w ≡ false) → Walked now (before ++ mid) rest checked
   skips now before mid rest checked walked unread apart = record {
     parts = walked.parts ∙ sym (append_assoc before mid rest);
@@ -228,7 +228,7 @@ module _ (meaning : TextMeaning) (header : List ℕ → Header) (pre : Query →
     left = walked.left;
   }
 
-  -- an edited unit is checked, under the answers that there are
+  -- an edited unit is checked, under the present answers
   module _ (now new : Entries) (before rest checked : List UnitKey) (u : UnitKey) (walked : Walked now before (u ∷ rest) checked) (unread : IsUnread lib old now) (edited : is_edited edits u ≡ true) (e : Stored) (keeps : KeepsLaw meaning header u e) (current : IsCurrent e (text_of lib u) (now_table pre now)) (turned : Turned pre (with_made log_of e) u now new) (left : IsLeft now new) where
     once : (has_unit before u ≡ false) × IsDistinct same_unit (u ∷ rest)
     once = distinct-from before u rest (subst (λ (us : List UnitKey). IsDistinct same_unit us) walked.parts (order-distinct header pre lib order has))
@@ -284,7 +284,7 @@ module _ (meaning : TextMeaning) (header : List ℕ → Header) (pre : Query →
       left = λ w. left w ∙ walked.left w;
     }
 
-    -- and it reaches no other, where none depends on it by itself, or it is as sound as before; and no mark is another one
+    -- it reaches no other unit, if none depends on it directly, or it is as sound as before, and no mark differs
     pub stays-unread : IsBaseOfNone lib u ⊎ (is_sound (results_of (now_at new) u) ≡ is_sound (results_of (now_at now) u)) → AreMarkedAsBefore new → IsUnread lib old new
     stays-unread why as_before = record {
       reached = λ w t. all-same (λ (k : Key). is_sound (results_of (now_at new) (unit_named k))) (λ (k : Key). is_sound (results_of (now_at now) (unit_named k))) (direct lib (key_of w)) (λ k c. alike w t k c) ∙ unread.reached w t;
@@ -304,7 +304,7 @@ module _ (meaning : TextMeaning) (header : List ℕ → Header) (pre : Query →
           | inr m ↦ other (unit_named k) m
         ]
 
-  -- where all are done the build is what it should be
+  -- if all units are done, the build is as it should be
   pub ends : (now : Entries) (before checked : List UnitKey) → Walked now before [] checked → IsBuilt meaning header s (settled_at old) (now_at now) order checked
   ends now before checked walked =
       let whole : before ≡ order = sym (append-nil before) ∙ sym walked.parts in
@@ -312,7 +312,7 @@ module _ (meaning : TextMeaning) (header : List ℕ → Header) (pre : Query →
       (λ w out. out-none now before [] checked walked w (sym (ap (λ (us : List UnitKey). has_unit us w) walked.parts) ∙ out))
       (subst (λ (us : List UnitKey). Progress meaning header lib fl pre is (settled_at old) (within us (now_at now)) us [] checked) whole walked.progress)
 
-  -- all but the edited units have the entries that there were
+  -- all but the edited units have the same entries as before
   pub renews : (now : Entries) (before rest checked : List UnitKey) → Walked now before rest checked → IsRenewal (settled_at old) units (now_at now)
   renews now before rest checked walked = record { others = others; there = there }
     where
@@ -337,7 +337,7 @@ module _ (meaning : TextMeaning) (header : List ℕ → Header) (pre : Query →
               some-made (state now w).is_reached (state now w).made (state now w).settled (walked.steady.are_made.reached w made) made
           by false m = ap is_some (walked.others w m) ∙ edited-some meaning header pre lib order units (settled_at old) has given.renewable w edited
 
-  -- what the walk over the rest of the order makes is what a build of the whole order makes
+  -- the walk over the rest of the order gives what a build of the whole order gives
   pub built-rest : (now new : Entries) (before rest checked more : List UnitKey) → Walked now before rest checked
       → (IsOrder s is.rank (before ++ rest) → AllKeepLaw meaning header (settled_at now) → Progress meaning header lib fl pre is (settled_at now) (within before (now_at now)) before rest checked → ((w : UnitKey) → has_unit (before ++ rest) w ≡ false → now_at now w ≡ None) → IsBuilt meaning header s (settled_at now) (now_at new) (before ++ rest) more)
       → IsBuilt meaning header s (settled_at old) (now_at new) order more
@@ -392,7 +392,7 @@ module _ (meaning : TextMeaning) (header : List ℕ → Header) (pre : Query →
     pub checked-unread : IsBaseOfNone lib u ⊎ (is_sound (results_of (now_at new) u) ≡ is_sound (results_of (now_at now) u)) → AreMarkedAsBefore new → IsUnread lib old new
     checked-unread = stays-unread now new front after-u checked u walked-to unread (first_in rest u more later).edited e keeps current turned left
 
-    -- what stands after it in the order is the rest
+    -- the rest comes after it in the order
     rest-is : (b after : List UnitKey) → order ≡ b ++ u ∷ after → after-u ≡ after
     rest-is b after is =
         one-end front b u after-u after
@@ -408,12 +408,12 @@ module _ (meaning : TextMeaning) (header : List ℕ → Header) (pre : Query →
   to-end now before rest checked later walked unread =
       skips now before rest [] checked (subst (λ (us : List UnitKey). Walked now before us checked) (sym (append-nil rest)) walked) unread (none-of edits rest later)
 
-  -- a unit that is checked isn't a base where it is said so
+  -- a unit that is checked isn't a base, if it isn't marked as one
   pub none-based : (row : List EditedUnit) → AreInOrder order edits row → (e : EditedUnit) → Contains row e → (b : Type 0) → (e.is_base ≡ false) ⊎ b → IsBaseOfNone lib e.unit ⊎ b
   none-based row is e c b (inl k) = inl (given.alone e (is.among e c) k)
   none-based row is e c b (inr k) = inr k
 
-  -- an edited unit stands in the order
+  -- an edited unit is in the order
   pub edited-ordered : (u : UnitKey) → is_edited edits u ≡ true → has_unit order u ≡ true
   edited-ordered u h = in-order meaning header pre lib order units (settled_at old) has given.renewable u (edited-some meaning header pre lib order units (settled_at old) has given.renewable u h)
 

@@ -31,7 +31,7 @@ raised-more : (n m : ℕ) → n ≤ m → raised 0 n ≤ raised 0 m
 raised-more n m h = grind (arith, nat_tests, h)
 
 module _ (lib : Library) (checked : List UnitKey) (old mid new : Entries) (left : IsLeft old mid) (ended : (u : UnitKey) → state new u ≡ kept_state (settled_state (state mid u))) (leaving : AreLeaving lib mid) (made : (u : UnitKey) → (Contains checked u → is_some (state mid u).made ≡ true) × (is_some (state mid u).made ≡ true → Contains checked u)) where
-  -- the settled entries are those of before
+  -- the settled entries are as before
   answer-based : (o n : Option (Held Stored)) (i : ℕ) → option_map base n ≡ option_map base o → option_and_then (λ (h : Held Stored). slice_get (log_of h.entry) i) n ≡ option_and_then (λ (h : Held Stored). slice_get (log_of h.entry) i) o
   answer-based None None i e = refl
   answer-based (Some h) None i e = absurd (cc)
@@ -99,7 +99,7 @@ module _ (lib : Library) (checked : List UnitKey) (old mid new : Entries) (left 
         at_least = subst (λ (n : ℕ). raised 0 some.0 ≤ n) (sym is.2) (raised-more some.0 is.0 fewer);
       }
 
--- where no unit moves nothing is compared
+-- if no unit moves, nothing is compared
 pub still-within : (lib : Library) (checked : List UnitKey) (store : Entries) → ((u : UnitKey) → is_moved lib checked store store u ≡ false) → IsWithin lib checked store store 0
 unfolding IsDistinct
 still-within lib checked store still = record {

@@ -1,4 +1,4 @@
--- What a build answers, by what compiling gave.
+-- The answer of a build, from the result of compiling.
 use Rattle.std.specs.Prelude.{length}
 use Rattle.al_engine.specs.Programs.{bytes_in}
 use Rattle.al_engine.specs.declared.compiled.Compiled.{Compiled}
@@ -7,7 +7,7 @@ use Rattle.al_engine.specs.declared.compiled.Program.{Program}
 use Rattle.al_engine.specs.declared.answer.BuildAnswer.{BuildAnswer}
 use Rattle.al_engine.specs.declared.answer.BuildAnswer.TheVariants as answers
 
--- so many items, and an image of so many bytes
+-- the numbers of items of the partition and of bytes of the image
 abbrev pub built : Program → BuildAnswer
 built program = answers.Built (length program.order.items) (length (bytes_in program))
 

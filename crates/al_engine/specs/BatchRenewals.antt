@@ -1,4 +1,4 @@
--- What a build can use again of the partition of the build before.
+-- What a build can use again of the partition of the last build.
 use Rattle.std.specs.Prelude.{ℕ, ⊤, List, map, Option, if◌then◌else◌}
 use Rattle.al_base.specs.Batch.{key_of}
 use Rattle.al_base.specs.declared.unit_key.UnitKey.{UnitKey}
@@ -14,22 +14,22 @@ use Rattle.al_engine.specs.declared.compiled.Compiled.{Compiled}
 use Rattle.al_engine.specs.declared.compiled.Compiled.TheVariants.{Faulty, Unbound, TooLarge, Made}
 use Rattle.al_engine.specs.declared.compiled.Program.{Program}
 
--- the order and the objects of a program are those of the main unit's partition, where the units have these outcomes, and its image is
--- that of its objects
+-- the order and the objects of a program are those of the main unit's partition if the units have these outcomes, and its image
+-- is that of its objects
 abbrev pub HoldsPartition : Library → (UnitKey → Option Outcome) → List ℕ → Program → Type 0
 HoldsPartition lib f main program = IsPartition lib f main (map key_of program.order.items) (main_symbol lib main) (map object_model program.objects.items) × IsHeld program
 
--- .. of the program that compiling gave, if it gave one
+-- this holds of the program that compiling gave, if it gave one
 abbrev pub KeepsPartition : Library → (UnitKey → Option Outcome) → List ℕ → Compiled → Type 0
 KeepsPartition lib f main (Faulty diagnostics) = ⊤
 KeepsPartition lib f main (Unbound fault) = ⊤
 KeepsPartition lib f main (TooLarge order) = ⊤
 KeepsPartition lib f main (Made program) = HoldsPartition lib f main program
 
--- a unit with its object, where it isn't the unit that has another one now
+-- a unit with its object, replaced by x if that is the same unit
 abbrev pub renewed_one : WithObject → WithObject → WithObject
 renewed_one x one = if same_unit x.0 one.0 then x else one
 
--- the units with their objects, of which one has this object now
+-- the units with their objects, of which that of x is replaced
 abbrev pub renewed : WithObject → List WithObject → List WithObject
 renewed x us = map (renewed_one x) us

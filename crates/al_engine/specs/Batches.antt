@@ -1,5 +1,5 @@
--- What compiling the files of a library gives for a main unit, where the units have these outcomes. No entry, no earlier build and
--- no command has a part in it.
+-- The result of compiling the files of a library for a main unit, if the units have these outcomes. It depends on no entry, no
+-- earlier build and no command.
 use Rattle.std.specs.Prelude.{ℕ, ◌≡◌, ◌<◌, List, [], length, map, Option}
 use Rattle.al_base.specs.Batch.{finding_of, key_of}
 use Rattle.al_base.specs.declared.unit_key.UnitKey.{UnitKey}
@@ -16,15 +16,15 @@ use Rattle.al_engine.specs.BatchRenewals.{HoldsPartition}
 use Rattle.al_engine.specs.declared.compiled.Compiled.{Compiled}
 use Rattle.al_engine.specs.declared.compiled.Compiled.TheVariants.{Faulty, Unbound, TooLarge, Made}
 
--- what is wrong with the files, by file, place and number; where nothing is, what the partition lacks or the cycle that shows that it
--- has no order of elaboration; or else the order, with the objects and the image, or without them where this would pass a limit
+-- the errors in the files, by file, place and number; without errors, what the partition lacks or the cycle that shows that it
+-- has no order of elaboration; or else the order, with the objects and the image, or without them if a limit would be passed
 abbrev pub IsBatch : Library → (UnitKey → Option Outcome) → List ℕ → Compiled → Type 0
 IsBatch lib f main (Faulty diagnostics) = (map finding_of diagnostics.items ≡ findings_of lib f) × (0 < length diagnostics.items)
 IsBatch lib f main (Unbound fault) = (findings_of lib f ≡ []) × IsBindFault lib main fault
 IsBatch lib f main (TooLarge order) = (findings_of lib f ≡ []) × IsTooLarge lib f main (map key_of order.items)
 IsBatch lib f main (Made program) = (findings_of lib f ≡ []) × IsProgram lib f main (map key_of program.order.items) (image_in program) (bytes_in program) × HoldsPartition lib f main program
 
--- Compiling from nothing: the outcomes are the one map that solves the equations of the library for a checker.
+-- Compiling from nothing: the outcomes are the only map that solves the equations of the library for a checker.
 pub record IsCompiled (meaning : TextMeaning) (s : Setting) (main : List ℕ) (compiled : Compiled) : Type 0 where
   pub outcomes : UnitKey → Option Outcome
   pub solves : Solves (with_texts meaning s.files) s outcomes

@@ -1,4 +1,4 @@
--- What sound units promise to one another, and that none is missing.
+-- What sound units promise to one another; the bodies and subunits that complete it are all there.
 use Rattle.std.specs.Prelude.{◌≡◌, true, Option}
 use Rattle.std.specs.List.{Contains}
 use Rattle.al_base.specs.Batch.{key_of}
@@ -19,10 +19,10 @@ use Rattle.al_query_outcome.specs.declared.interface.UnitInterface.{UnitInterfac
 abbrev pub KeepParts : Setting → (UnitKey → Option Outcome) → Type 0
 KeepParts s f = (u : UnitKey) (i : UnitInterface) (tree : UnitTree) → Has f u i tree → KeepsParts u (s.header_of u) (table s f) i tree
 
--- no unit of the library has a fault
+-- no unit of the library has an error
 abbrev pub AreAllSound : Setting → (UnitKey → Option Outcome) → Type 0
 AreAllSound s f = (u : UnitKey) → is_unit s.files (key_of u) ≡ true → is_sound (f u) ≡ true
 
--- the predefined units show nothing that the linker must find
+-- the interfaces of predefined units name no symbol that the linker must find
 abbrev pub ShowNoCode : Setting → Type 0
 ShowNoCode s = (q : Query) (x : LinkSymbol) → has_unit predefined_units (unit_of q) ≡ true → Contains (answer_uses (s.predefined q)) x → ⊥

@@ -1,4 +1,4 @@
--- What is told of a build, by what it gave.
+-- What is reported of a build, from its result.
 use Rattle.std.specs.Prelude.{ℕ, List, [], map, Option, Some, None}
 use Rattle.std.specs.List.{fold}
 use Rattle.std.specs.BTreeSet.{insert_key}
@@ -9,27 +9,27 @@ use Rattle.al_engine.specs.declared.compiled.Compiled.{Compiled}
 use Rattle.al_engine.specs.declared.compiled.Compiled.TheVariants.{Faulty, Unbound, TooLarge, Made}
 use Rattle.al_engine.specs.declared.compiled.Program.{Program}
 
--- what is wrong with the files; nothing where they were bound, or could not be
+-- the errors in the files; none if the partition was bound, or couldn't be
 abbrev pub diagnostics_of : Compiled → List Diagnostic
 diagnostics_of (Faulty diagnostics) = diagnostics.items
 diagnostics_of (Unbound fault) = []
 diagnostics_of (TooLarge order) = []
 diagnostics_of (Made program) = []
 
--- the order of elaboration, where there is one
+-- the order of elaboration, if there is one
 abbrev pub order_of : Compiled → Option (List UnitKey)
 order_of (Faulty diagnostics) = None
 order_of (Unbound fault) = None
 order_of (TooLarge order) = Some order.items
 order_of (Made program) = Some program.order.items
 
--- the program, where there is one
+-- the program, if there is one
 abbrev pub program_of : Compiled → Option Program
 program_of (Faulty diagnostics) = None
 program_of (Unbound fault) = None
 program_of (TooLarge order) = None
 program_of (Made program) = Some program
 
--- the files of which something is told, in the order of their names
+-- the files for which errors are reported, in the order of their names
 abbrev pub files_reported : Compiled → List (List ℕ)
 files_reported compiled = fold (insert_key name_cmp) [] (map (λ d. d.file) (diagnostics_of compiled))

@@ -1,4 +1,4 @@
--- What of a build's graph a later one can take over.
+-- What a build can take over of the last build's graph.
 use Rattle.std.specs.Prelude.{ℕ, ⊤, List, Option, IfSome, map}
 use Rattle.std.specs.List.{Contains}
 use Rattle.al_base.specs.Batch.{key_of}
@@ -22,10 +22,10 @@ IsOrderOf lib main (Unbound fault) = ⊤
 IsOrderOf lib main (Linkable p) = IsElaboration lib main (map key_of p.order.items)
 IsOrderOf lib main (Renewed r) = ⊤
 
--- what is remembered of the last build's files: what was read, their graph, and orders of elaboration
+-- what is kept of the last build's files: their names and sources, their graph, and orders of elaboration
 abbrev pub Remembered : Type 0
 Remembered = Texts × UnitGraph × List KnownOrder
 
--- the graph that is kept is that of the files of the last build, and the orders are of these
+-- the graph that is kept is that of the files of the last build, and the orders are orders of their elaboration
 abbrev pub KeepsGraph : (Texts → Library) → Option Remembered → Type 0
 KeepsGraph library remembered = IfSome remembered (λ k. IsGraphOf (library k.0) k.1 × AreElaborations (library k.0) k.2)

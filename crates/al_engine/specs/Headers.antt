@@ -1,4 +1,4 @@
--- What two headers say alike.
+-- When two headers are the same except for places.
 use Rattle.std.specs.Prelude.{◌≡◌}
 use Rattle.al_unit_graph.specs.Headers.{Header}
 

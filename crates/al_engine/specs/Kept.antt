@@ -16,8 +16,8 @@ use Rattle.al_engine.specs.declared.graph.UnitGraph.{UnitGraph}
 abbrev pub unit_of : Key → UnitKey
 unit_of k = record { name = k.0; kind = k.1 }
 
--- what is wrong with each file of the library as a unit, an order of dependence of its units that break no rule, and those on which one of
--- these depends by itself
+-- the rules that each file of the library breaks as a unit, an order of dependence of its units that break no rule, and the units
+-- on which one of these depends directly
 pub record IsGraphOf (lib : Library) (graph : UnitGraph) : Type 0 where
   pub faults : map file_faults_model graph.faults.items ≡ map (λ file. (file, file_faults lib file)) (keys_of lib)
   pub order : IsDependenceOrder lib (map key_of graph.order.items)

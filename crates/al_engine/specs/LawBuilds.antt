@@ -9,11 +9,11 @@ use Rattle.al_engine.specs.Replies.{Reply, reply_of}
 use Rattle.al_engine.specs.Builds.{IsBuild}
 use Rattle.al_engine.specs.States.{Built, Held}
 
--- what the last build tells, as plain data
+-- what the last build reports, as plain data
 abbrev pub told : Option Built → Option Reply
 told built = option_map (λ b. reply_of b.gave.compiled) built
 
--- Two libraries with the same files, each after a build of the same main unit, tell one thing.
+-- If two libraries have the same files, and each was built with the same main unit, then they report the same.
 abbrev pub BuildsTellOneThing : (C P : Type 0) → TextMeaning → (List ℕ → Header) → (C → ℕ) → (Query → AnswerKind) → (Texts → Library) → Type 0
 BuildsTellOneThing C P meaning header count predefined library =
     (main : List ℕ) (old new other built : Held C P)

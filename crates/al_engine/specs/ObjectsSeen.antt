@@ -7,6 +7,6 @@ use Rattle.al_engine.specs.declared.objects.UnitObject.{UnitObject}
 abbrev pub object_model : {W : Type 0} → Rc UnitObject W → WithObject
 object_model u = (u.value.key, u.value.object)
 
--- what the linker takes
+-- a unit with its object, in the form that the linker takes
 abbrev pub left_model : CompiledUnit → WithObject
 left_model u = (u.key.now, u.object.now)

@@ -14,7 +14,8 @@ use Rattle.al_query_outcome.specs.Equations.{unit_named}
 use Rattle.al_query_outcome.specs.Results.{Outcome}
 use Rattle.al_engine.specs.Objects.{IsLinkable, WithObject, linked_units, objects_at}
 
--- the objects of the items in the order of their elaboration, those of a body's subunits after it, and the main subprogram's symbol
+-- the objects of the items in the order of their elaboration, each with those of its subunits after it; and the main subprogram's
+-- symbol
 pub record IsPartition (lib : Library) (f : UnitKey → Option Outcome) (main : List ℕ) (order : List Key) (symbol : LinkSymbol) (us : List WithObject) : Type 0 where
   pub ordered : IsElaboration lib main order
   pub placed : List Key
@@ -22,15 +23,15 @@ pub record IsPartition (lib : Library) (f : UnitKey → Option Outcome) (main : 
   pub symbol_is : symbol ≡ main_symbol lib main
   pub objects_are : us ≡ objects_at f (map unit_named placed)
 
--- these objects would pass a limit of images
+-- the order of elaboration of a partition whose objects would pass a limit of images
 pub record IsTooLarge (lib : Library) (f : UnitKey → Option Outcome) (main : List ℕ) (order : List Key) : Type 0 where
   pub ordered : IsElaboration lib main order
   pub placed : List Key
   pub are_placed : ArePlaced lib order placed
   pub passes : IsLinkable (objects_at f (map unit_named placed)) → ⊥
 
--- .. are linked into this image with the main subprogram, and these are its bytes; they define the main subprogram's code and all that
--- their code uses
+-- the objects of a partition are linked into this image with the main subprogram, and these are its bytes; they define the main
+-- subprogram's code and all that their code uses
 pub record IsProgram (lib : Library) (f : UnitKey → Option Outcome) (main : List ℕ) (order : List Key) (image : Image) (bytes : List ℕ) : Type 0 where
   pub ordered : IsElaboration lib main order
   pub placed : List Key

@@ -1,4 +1,4 @@
--- Where the units of a partition stand in its image: the items in the order of their elaboration, each with its subunits after it.
+-- The order of a partition's units in its image: the items in the order of their elaboration, each with its subunits after it.
 use Rattle.std.specs.Prelude.{◌≡◌, ◌↔◌, true, List, [], ◌∷◌, ◌++◌, if◌then◌else◌}
 use Rattle.std.specs.List.{Contains, filter}
 use Rattle.std.specs.BTreeSet.{insert_key}
@@ -24,6 +24,6 @@ pub data ArePlaced (lib : Library) : List Key → List Key → Type 0 where
 abbrev pub subunits_among : List Key → List Key
 subunits_among keys = in_order (filter (λ k. is_kind k.1 Sub) keys)
 
--- with one key more, where it is a subunit's
+-- these subunits with one key more, if that is a subunit's
 abbrev pub with_subunit : List Key → Key → List Key
 with_subunit found k = if is_kind k.1 Sub then insert_key key_cmp found k else found

@@ -1,4 +1,4 @@
--- A build of a library that is done but for its image.
+-- A build of a library that is done except for its image.
 use Rattle.std.specs.Prelude.{ℕ, List}
 use Rattle.al_base.specs.declared.unit_key.UnitKey.{UnitKey}
 use Rattle.al_unit_graph.specs.Headers.{Header, Library}
@@ -13,8 +13,8 @@ use Rattle.al_engine.specs.Plans.{IsClosedPlan, IsPlanned}
 use Rattle.al_engine.specs.declared.compiled.Compiled.{Compiled}
 use Rattle.al_engine.specs.declared.planned.Planned.{Planned}
 
--- the units that it checked, the entries that it made over those of before, and how many stored answers it compared; what compiling with
--- the outcomes of now gives up to the image, over what it gave before, which is closed; and that the entries that there will be keep the law
+-- which units it checked, the entries that it made over those of before, and how many stored answers it compared; the result of
+-- compiling with the present outcomes up to the image, which is closed; and the entries that there will be keep the reads law
 pub record IsPrepared (meaning : TextMeaning) (header : List ℕ → Header) (predefined : Query → AnswerKind) (lib : Library) (main : List ℕ) (before : Compiled) (old : Entries) (planned : Planned) (new : Entries) (checked : List UnitKey) (compared : ℕ) : Type 0 where
   pub updated : IsUpdated meaning header predefined lib old new checked compared
   pub is_planned : IsPlanned lib (results_of (now_at new)) main before planned

@@ -16,7 +16,8 @@ use Rattle.al_engine.specs.Plans.{IsClosedPlan, IsPlanned}
 use Rattle.al_engine.specs.declared.compiled.Compiled.{Compiled}
 use Rattle.al_engine.specs.declared.planned.Planned.{Planned}
 
--- of a library whose files have the headers that are read in their texts, with an order of dependence of its units, and entries that a build made for these files: what is planned by their outcomes is closed
+-- what a build plans to link is closed: its library's files have the headers that are read in their sources, its units are in an
+-- order of dependence, and the build made its entries for these files
 abbrev pub PartitionsAreClosed : Type 0
 PartitionsAreClosed =
     (meaning : TextMeaning) (header : List ℕ → Header) (predefined : Query → AnswerKind) (lib : Library) (order : List UnitKey)

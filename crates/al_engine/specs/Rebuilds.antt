@@ -1,4 +1,4 @@
--- What a build of a library makes of what is kept of its units.
+-- The effect of a build on the entries of a library's units.
 use Rattle.std.specs.Prelude.{ℕ, ◌≡◌, ◌≤◌, ◌&&◌, ◌||◌, Bool, true, not, List, Option, is_some}
 use Rattle.al_base.specs.declared.unit_key.UnitKey.{UnitKey}
 use Rattle.al_unit_graph.specs.Headers.{Header, Library}
@@ -16,30 +16,30 @@ use Rattle.al_engine.specs.Rechecks.{AreReady, IsRechecked, setting_of}
 use Rattle.al_engine.specs.Batches.{IsBatch, IsCompiled}
 use Rattle.al_engine.specs.declared.rebuilding.Rebuilt.{Rebuilt}
 
--- the units that it checked and the entries that it made of those of before; what compiling with the outcomes in these gives for
--- the main unit; and which entries there are then
+-- the units that it checked and the entries that it made over those of before; the result of compiling for the main unit with the
+-- outcomes in these entries; and which entries there are then
 pub record IsRebuilt (meaning : TextMeaning) (header : List ℕ → Header) (predefined : Query → AnswerKind) (lib : Library) (main : List ℕ) (old new : UnitKey → Option Stored) (rebuilt : Rebuilt) : Type 0 where
   pub made : UnitKey → Option Stored
   pub rechecked : IsRechecked meaning header (setting_of header predefined lib) old made rebuilt.checked
   pub is_batch : IsBatch lib (results_of made) main rebuilt.compiled
   pub entries : (u : UnitKey) → new u ≡ staying lib old made u
 
--- what a build gives is what compiling from nothing gives, whatever was kept before
+-- a build gives what compiling from nothing gives, whatever entries there were before
 abbrev pub RebuildsAreCompiled : Type 0
 RebuildsAreCompiled =
     (meaning : TextMeaning) (header : List ℕ → Header) (predefined : Query → AnswerKind) (lib : Library) (main : List ℕ) (old new : UnitKey → Option Stored) (rebuilt : Rebuilt)
     → IsRebuilt meaning header predefined lib main old new rebuilt → IsCompiled meaning (setting_of header predefined lib) main rebuilt.compiled
 
--- of a unit an entry was made, or it was taken away, or the one of two builds alone reached it, where these units were checked
+-- whether a unit moved, if these units were checked: an entry of it was made or dropped, or only one of the two builds reached it
 abbrev pub is_moved : Library → List UnitKey → Entries → Entries → UnitKey → Bool
 is_moved lib checked old new u = has_unit checked u || (is_some (settled_at old u) && not (is_there lib u)) || differ (state old u).was_reached (state new u).was_reached
 
--- an entry is neither written nor taken away
+-- whether an entry is neither written nor dropped
 abbrev pub is_left : Library → List UnitKey → UnitKey → Bool
 is_left lib checked u = is_there lib u && not (has_unit checked u)
 
--- How many stored answers a build compared: at most those to the questions of units that moved, in the entries as it began, and at least
--- those of them that stand in entries which it neither writes nor takes away; to 2^64-1.
+-- How many stored answers a build compared, to 2^64-1: at most those to the look-ups in units that moved, in the entries as it
+-- began, and at least those of them that are in entries which it neither writes nor drops.
 pub record IsWithin (lib : Library) (checked : List UnitKey) (old new : Entries) (compared : ℕ) : Type 0 where
   pub most : ℕ
   pub is_most : HasAnswers log_of (λ u. true) (is_moved lib checked old new) old most
@@ -48,11 +48,11 @@ pub record IsWithin (lib : Library) (checked : List UnitKey) (old new : Entries)
   pub is_least : HasAnswers log_of (is_left lib checked) (is_moved lib checked old new) old least
   pub at_least : raised 0 least ≤ compared
 
--- What a build leaves of what is kept: the entries that it settled, where these are those that it reached.
+-- What a build leaves of the entries: it settled these, if they are those that it reached.
 pub record IsKept (predefined : Query → AnswerKind) (lib : Library) (old new : Entries) (made : UnitKey → Option Stored) (rebuilt : Rebuilt) : Type 0 where
-  -- which units it reached, and the entries of these
+  -- which units it reached, and their entries
   pub reached : (u : UnitKey) → before_at new u ≡ made u
-  -- nothing is made since, and the marks say which stored answers differ from those of the units that it reached
+  -- no entry was made since, and the marks say which stored answers differ from those of the units that it reached
   pub ready : AreReady predefined new
   -- how many stored answers it compared
   pub compared : IsWithin lib rebuilt.checked old new rebuilt.compared

@@ -1,4 +1,4 @@
--- What a build makes of what is kept of a library's units.
+-- The effect of a build on the entries of a library's units.
 use Rattle.std.specs.Prelude.{ℕ, ◌≡◌, ◌↔◌, true, false, List, map, Option, None, is_some, if◌then◌else◌}
 use Rattle.std.specs.List.{Contains}
 use Rattle.std.specs.List.Sorted.{IsStrictlySortedBy}
@@ -28,39 +28,40 @@ setting_of header predefined lib = setting header lib (λ u. is_faultless lib (k
 abbrev pub HasOrder : (List ℕ → Header) → (Query → AnswerKind) → Library → List UnitKey → Type 0
 HasOrder header predefined lib order = (is : IsSetting (setting_of header predefined lib)) × IsOrder (setting_of header predefined lib) is.rank order
 
--- The entries that a build makes, and the units that it checks, whatever the old entries are that keep the law.
+-- The entries that a build makes, and the units that it checks, whatever the old entries are, as long as they keep the reads law.
 pub record IsRechecked (meaning : TextMeaning) (header : List ℕ → Header) (s : Setting) (old made : UnitKey → Option Stored) (checked : List UnitKey) : Type 0 where
-  -- every entry keeps the law
+  -- every entry keeps the reads law
   pub law : AllKeepLaw meaning header made
   -- the outcomes solve the equations of the library, and no others do
   pub solves : Solves (with_texts meaning s.files) s (results_of made)
   pub only : (g : UnitKey → Option Outcome) → Solves (with_texts meaning s.files) s g → (u : UnitKey) → g u ≡ results_of made u
-  -- a unit that is reached has an entry for its text with the answers of now; no other unit has one
+  -- a unit that is reached has an entry for its source with the answers of now; no other unit has one
   pub current : (u : UnitKey) → is_reached s (results_of made) u ≡ true → HasCurrent (made u) (text_of s.files u) (table s (results_of made))
   pub unreached : (u : UnitKey) → is_reached s (results_of made) u ≡ false → made u ≡ None
-  -- exactly those were checked that had no such entry before; by unit and kind
+  -- exactly the units are checked that had no such entry before; they are listed by unit and kind
   pub rechecked : (u : UnitKey) → Contains checked u ↔ NeedsCheck s old (text_of s.files) (results_of made) u
   pub ascend : IsStrictlySortedBy key_cmp (map key_of checked)
 
--- What there is of each unit after a build whose outcomes are these.
+-- The entries of all units after a build with these outcomes.
 pub record AreSettled (s : Setting) (outcomes : UnitKey → Option Outcome) (old new : UnitKey → Option Stored) : Type 0 where
-  -- a unit that is reached has an entry for its text with the answers of now, and its outcome
+  -- a unit that is reached has an entry for its source with the answers of now, and its outcome
   pub current : (u : UnitKey) → is_reached s outcomes u ≡ true → HasCurrent (new u) (text_of s.files u) (table s outcomes)
   pub results : (u : UnitKey) → is_reached s outcomes u ≡ true → results_of new u ≡ outcomes u
-  -- a unit of the library that isn't reached has the entry of before; one that isn't in the library has none
+  -- a unit of the library that isn't reached has the same entry as before; one that isn't in the library has none
   pub others : (u : UnitKey) → is_reached s outcomes u ≡ false → new u ≡ (if is_there s.files u then old u else None)
 
--- the entries that stay after a build are these
+-- the entries after a build are these
 abbrev pub StayingAreSettled : Type 0
 StayingAreSettled =
     (meaning : TextMeaning) (header : List ℕ → Header) (s : Setting) (old made : UnitKey → Option Stored) (checked : List UnitKey)
     → IsRechecked meaning header s old made checked → AreSettled s (results_of made) old (staying s.files old made)
 
--- the entry of a unit once a build that made these is settled
+-- the entry that a unit will have once the build is settled
 abbrev pub will_be : Entries → UnitKey → Option Stored
 will_be store u = entry_of (settled_state (state store u)).settled
 
--- What a build makes of the entries of a library's units, before it is settled or cancelled. The last build left what it left.
+-- The effect of a build on the entries of a library's units, before it is settled or cancelled. The entries of the last build are
+-- unchanged.
 pub record IsUpdated (meaning : TextMeaning) (header : List ℕ → Header) (predefined : Query → AnswerKind) (lib : Library) (old new : Entries) (checked : List UnitKey) (count : ℕ) : Type 0 where
   -- which units were checked, and the entries of those that are reached
   pub rechecked : IsRechecked meaning header (setting_of header predefined lib) (settled_at old) (now_at new) checked
@@ -68,15 +69,15 @@ pub record IsUpdated (meaning : TextMeaning) (header : List ℕ → Header) (pre
   pub staying : (u : UnitKey) → will_be new u ≡ staying lib (settled_at old) (now_at new) u
   -- the marks of now say which stored answers differ from those of now
   pub marks : MarksFollow predefined new
-  -- so many stored answers were compared: those to questions of units that moved
+  -- the number of stored answers that were compared: those to look-ups in units that moved
   pub compared : IsCompared new count
   -- an entry was made of each unit that was checked, and of no other
   pub made : (u : UnitKey) → Contains checked u ↔ (is_some (state new u).made ≡ true)
   pub are_made : AreMade new
-  -- who leaves isn't in the library
+  -- a unit that leaves isn't in the library
   pub leaving : AreLeaving lib new
 
--- nothing was made since the last build, and the marks say which stored answers differ from those that it reached
+-- no entry was made since the last build, and the marks say which stored answers differ from those that it reached
 pub record AreReady (predefined : Query → AnswerKind) (store : Entries) : Type 0 where
   pub quiet : AreQuiet store
   pub marks : AreMarked log_of (last_table predefined store) store
@@ -85,7 +86,7 @@ pub record AreReady (predefined : Query → AnswerKind) (store : Entries) : Type
 abbrev pub AreAllReached : Entries → Type 0
 AreAllReached store = (u : UnitKey) → before_at store u ≡ settled_at store u
 
--- a build that is settled is ready for the next one, and reached what was reached
+-- a build that is settled is ready for the next one, which finds as reached what was reached
 abbrev pub UpdatesAreReady : Type 0
 UpdatesAreReady =
     (meaning : TextMeaning) (header : List ℕ → Header) (predefined : Query → AnswerKind) (lib : Library) (old mid new : Entries) (checked : List UnitKey) (compared : ℕ)

@@ -1,4 +1,4 @@
--- New entries of units whose texts alone were edited since the last build, and what the next build makes of all entries then.
+-- New entries of the only units that were edited since the last build, and the entries that the next build makes then.
 use Rattle.std.specs.Prelude.{◌≡◌, ◌↔◌, ℕ, true, false, List, map, Option, Some}
 use Rattle.std.specs.List.{Contains}
 use Rattle.std.specs.List.Sorted.{IsStrictlySortedBy}
@@ -17,8 +17,9 @@ use Rattle.al_engine_refresh.specs.Builds.{has_sound_dependences, present, resul
 use Rattle.al_engine.specs.RecheckEdits.{IsRenewable, IsRenewal}
 use Rattle.al_engine.specs.Rechecks.{HasOrder, IsRechecked, setting_of}
 
--- Each of these units has a new entry for its text of now, with the answers that there are then; all other entries are those that there were.
--- Nobody else is reached by it: the log of each other entry has the answers that there are then, and each unit depends on as sound ones.
+-- Each of these units has a new entry for its present source, with the answers that there are then; all other entries are as
+-- before. No other unit is reached by it: the log of each other entry has the answers that there are then, and each unit depends
+-- on units that are as sound as before.
 pub record AreRenewed (meaning : TextMeaning) (header : List ℕ → Header) (predefined : Query → AnswerKind) (lib : Library) (entries : UnitKey → Option Stored) (units : List UnitKey) (made : UnitKey → Option Stored) : Type 0 where
   pub renewal : IsRenewal entries units made
   pub law : (u : UnitKey) (e : Stored) → has_unit units u ≡ true → made u ≡ Some e → KeepsLaw meaning header u e

@@ -1,4 +1,4 @@
--- What compiling tells, as plain data, and that the files and the main unit alone settle it.
+-- What compiling reports, as plain data. It depends only on the files and the main unit.
 use Rattle.std.specs.Prelude.{◌≡◌, ◌⊎◌, ℕ, List, map, Option}
 use Rattle.al_base.specs.Batch.{Finding, Key, finding_of, key_of}
 use Rattle.al_base.specs.declared.unit_key.UnitKey.{UnitKey}
@@ -12,7 +12,8 @@ use Rattle.al_engine.specs.Programs.{bytes_in}
 use Rattle.al_engine.specs.declared.compiled.Compiled.{Compiled}
 use Rattle.al_engine.specs.declared.compiled.Compiled.TheVariants as compiled
 
--- what is wrong with the files; what the partition lacks, or the lines of a cycle; the order alone; the order and the bytes of the image
+-- the errors in the files; what the partition lacks, or the lines of a cycle; only the order; the order and the bytes of the
+-- image
 pub data Reply : Type 0 where
   Faulty : List Finding → Reply
   Unbound : MissingItem ⊎ List (Key × Key × Reason) → Reply
@@ -25,7 +26,7 @@ reply_of (compiled.Unbound fault) = Unbound (fault_model fault)
 reply_of (compiled.TooLarge order) = TooLarge (map key_of order.items)
 reply_of (compiled.Made program) = Made (map key_of program.order.items) (bytes_in program)
 
--- where the units have these outcomes, compiling tells one thing
+-- for given outcomes of the units, compiling reports one result
 abbrev pub ReplyIsOne : Type 0
 ReplyIsOne =
     (lib : Library) (f : UnitKey → Option Outcome) (main : List ℕ) (one two : Compiled) → IsBatch lib f main one → IsBatch lib f main two → reply_of one ≡ reply_of two

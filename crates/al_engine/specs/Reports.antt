@@ -15,16 +15,16 @@ abbrev pub or_no_image : {X : Type 0} → Option X → Result X Refusal
 or_no_image None = Err NoImage
 or_no_image (Some x) = Ok x
 
--- the main unit of a build, and what compiling gave
+-- the main unit of a build, and the result of compiling
 abbrev pub gave_last : Built → List ℕ × Compiled
 gave_last b = (b.main, b.gave.compiled)
 
--- what the last build gave of a kind; or that nothing was built, or that it gave nothing of the kind
+-- one kind of result of the last build; or that nothing was built, or that the build gave no such result
 abbrev pub reported : {X : Type 0} → (Compiled → Option X) → Option Built → Result X Refusal
 reported give None = Err NotBuilt
 reported give (Some b) = or_no_image (give b.gave.compiled)
 
--- what the last build found wrong; or that nothing was built
+-- the errors that the last build found; or that nothing was built
 abbrev pub found_last : Option Built → Result (List Diagnostic) Refusal
 found_last None = Err NotBuilt
 found_last (Some b) = Ok (diagnostics_of b.gave.compiled)

@@ -1,4 +1,4 @@
--- What a run of the last build answers.
+-- The answer to a run of the last build.
 use Rattle.std.specs.Prelude.{ℕ, ◌≡◌, ◌⊎◌, Option, Result, Ok, Err}
 use Rattle.al_base.specs.declared.refusal.Refusal.{Refusal}
 use Rattle.al_base.specs.declared.refusal.Refusal.TheVariants.{NoMemory}
@@ -10,7 +10,7 @@ use Rattle.al_tasks.specs.declared.running.RunReport.{RunReport}
 use Rattle.al_engine.specs.Reports.{reported}
 use Rattle.al_engine.specs.States.{Built}
 
--- the run of the image that the last build gave; or why there is none; or that memory was wanted
+-- the run of the image that the last build gave; or why there is none; or that memory ran out
 abbrev pub AnswersRun : Result RunReport Refusal → Option Built → ℕ → ℕ → Type 0
 AnswersRun (Ok ran) built tick steps = (program : Program) × (reported program_of built ≡ Ok program) × (run_model ran ≡ run_of (image_in program) tick steps)
 AnswersRun (Err e) built tick steps = (reported program_of built ≡ Err e) ⊎ ((program : Program) × (reported program_of built ≡ Ok program) × (e ≡ NoMemory))

@@ -14,11 +14,12 @@ used_symbols o = map (λ r. r.symbol) o.uses
 abbrev pub defined_symbols : CompiledCode → List LinkSymbol
 defined_symbols o = map (λ a. a.symbol) o.defines
 
--- it uses only what its tree uses: less, where a static expression names what its code doesn't need; it defines all that the tree does
+-- it uses only what its tree uses: less, if a static expression names something that its code doesn't need; it defines all that
+-- the tree defines
 pub record HasItsTreesSymbols (u : UnitTree) (o : CompiledCode) : Type 0 where
   pub uses : (x : LinkSymbol) → Contains (used_symbols o) x → Contains (unit_uses u) x
   pub defines : (x : LinkSymbol) → Contains (unit_defines u) x → Contains (defined_symbols o) x
 
--- so does each object of a unit
+-- each object of a unit has the symbols of its tree
 abbrev pub EachHasItsTreesSymbols : Type 0
 EachHasItsTreesSymbols = (u : UnitTree) (o : CompiledCode) → object_of u ≡ Compiled o → HasItsTreesSymbols u o

@@ -1,4 +1,4 @@
--- A checker, and what is kept of units.
+-- A checker, and the entries of units.
 use Rattle.al_engine_refresh.specs.Moves.{Entries}
 
 pub record Kept (C : Type 0) : Type 0 where

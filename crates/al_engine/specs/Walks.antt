@@ -1,4 +1,4 @@
--- Builds in which the texts of some units were edited, and no header, while they go on.
+-- Builds in which only the sources of some units were edited, and no header, step by step.
 use Rattle.std.specs.Prelude.{◌≡◌, ◌++◌, ℕ, Bool, true, false, List}
 use Rattle.std.specs.List.{Contains}
 use Rattle.al_base.specs.Batch.{key_of}
@@ -24,13 +24,13 @@ use Rattle.al_engine.specs.declared.edited.EditedUnit.{EditedUnit}
 abbrev pub is_edited : List EditedUnit → UnitKey → Bool
 is_edited edits u = has_unit (units_of edits) u
 
--- these are the edited units, each once, as they stand in an order
+-- these are the edited units, each once, as they come in an order
 pub record AreInOrder (order : List UnitKey) (edits row : List EditedUnit) : Type 0 where
   pub units : Picked (λ u. is_edited edits u ≡ true) order (units_of row)
   pub among : (e : EditedUnit) → Contains row e → Contains edits e
 
--- Of an order of dependence these units are as a build of it leaves them, and of them these were checked, each of which was edited; all
--- others have the entries that the last build settled.
+-- The first units of an order of dependence are as a build leaves them. The units that were checked are among these, and each was
+-- edited; all other units have the entries that the last build settled.
 pub record IsWalked (meaning : TextMeaning) (header : List ℕ → Header) (predefined : Query → AnswerKind) (lib : Library) (order : List UnitKey) (has : HasOrder header predefined lib order) (edits : List EditedUnit) (old now : Entries) (before rest checked : List UnitKey) : Type 0 where
   pub parts : order ≡ before ++ rest
   pub progress : Progress meaning header lib (λ u. is_faultless lib (key_of u)) predefined has.0 (settled_at old) (within before (now_at now)) before rest checked
@@ -41,7 +41,8 @@ pub record IsWalked (meaning : TextMeaning) (header : List ℕ → Header) (pred
   pub marks : MarksFollow predefined now
   pub left : IsLeft old now
 
--- no other unit was reached by what was checked: each depends on as sound ones as before, and no stored answer has another mark
+-- what was checked reached no other unit: each unit depends on units that are as sound as before, and no stored answer has
+-- another mark
 pub record IsUnread (lib : Library) (old now : Entries) : Type 0 where
   pub reached : (w : UnitKey) → is_faultless lib (key_of w) ≡ true → has_sound_dependences lib (results_of (now_at now)) w ≡ has_sound_dependences lib (results_of (settled_at old)) w
   pub marks : AreMarkedAsBefore now

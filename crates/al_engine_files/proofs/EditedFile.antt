@@ -1,4 +1,4 @@
--- One file with another text among files that stay as they are.
+-- One file with another source, among files that are unchanged.
 use Rattle.std.proofs.Common.{◌≡◌, ℕ, Bool, true, false, List, [], ◌∷◌, Option, Some, None, is_some, sym, ap, subst, refl, ◌∙◌}
 use Rattle.std.specs.Prelude.{IfSome}
 use Rattle.std.specs.BTreeMap.{insert_entry, is_at}
@@ -27,12 +27,12 @@ use Rattle.al_engine.specs.declared.alike.Edited.{Edited}
 use Rattle.al_engine.specs.Readings.{IsEditedAt}
 use Rattle.al_engine_files.specs.AdaFiles.{AreOfTexts}
 
--- no text below the first name
+-- there is no source for a name below the first
 text_of-above : (es : Texts) (k : List ℕ) → AllByRecursion (λ n. name_cmp k n ≡ Less) (keys_of es) → text_of es k ≡ None
 text_of-above [] k below = refl
 text_of-above (e ∷ es) k below = let first = below.0 in rw first (text_of-above es k below.1)
 
--- where a file is there, the names stay as they are
+-- if the file is there, the names are unchanged
 keys-stay : (es : Texts) (k v : List ℕ) → is_some (text_of es k) ≡ true → Ascend (with_file es k v) → keys_of (with_file es k v) ≡ keys_of es
 keys-stay [] k v there sorted = absurd (cc)
 keys-stay (e ∷ es) k v there sorted = step (name_cmp k e.0) refl (keys-stay es k v)
@@ -48,7 +48,7 @@ keys-stay (e ∷ es) k v there sorted = step (name_cmp k e.0) refl (keys-stay es
         let later : text_of (e ∷ es) k ≡ text_of es k = rw is refl in
         ap keys_of front ∙ ap (λ (ns : List (List ℕ)). e.0 ∷ ns) (rest (sym (ap is_some later) ∙ there) (sorted_tail name_cmp e.0 (keys_of (with_file es k v)) (subst Ascend front sorted)))
 
--- the name of a file that is there is one of a file
+-- the name of a file that is there is the name of a file
 pub named-file : (es : Texts) (k v : List ℕ) → AllByRecursion IsFile es → text_of es k ≡ Some v → is_file_name k ≡ true
 named-file [] k v each has = absurd (cc)
 named-file (e ∷ es) k v each has = by (is_eq (name_cmp k e.0)) refl (named-file es k v each.1)
@@ -57,7 +57,7 @@ named-file (e ∷ es) k v each has = by (is_eq (name_cmp k e.0)) refl (named-fil
     by true same rest = subst (λ (n : List ℕ). is_file_name n ≡ true) (sym ((bytes_eq-Decides k e.0).0 (sym (is_eq-slice_cmp k e.0) ∙ same))) each.0.0
     by false apart rest = let later : text_of (e ∷ es) k ≡ text_of es k = rw apart refl in rest (sym later ∙ has)
 
--- the library of files of which one has another text
+-- the library of files of which one has another source
 library-with : (fs : Texts) (k t : List ℕ) → library_of (with_file fs k t) ≡ insert_entry name_cmp (library_of fs) k (source_of t)
 unfolding library_of
 library-with [] k t = refl
@@ -98,7 +98,7 @@ module _ (before : Library) (name : List ℕ) (now : Texts) (text : List ℕ) (o
   at_name : (file : List ℕ) → is_eq (name_cmp file name) ≡ true → file ≡ name
   at_name file same = (bytes_eq-Decides file name).0 (sym (is_eq-slice_cmp file name) ∙ same)
 
-  -- where it is read as before, it alone may have another text
+  -- if the file is read as before, only its source may differ
   module _ (sorted : Ascend now) (read : contents_at before name ≡ Some (unplaced_contents (source_of text).contents)) where
     contents : (file : List ℕ) → contents_at before file ≡ contents_at (library_of now) file
     contents file = by (is_eq (name_cmp file name)) refl
@@ -126,7 +126,7 @@ module _ (before : Library) (name : List ℕ) (now : Texts) (text : List ℕ) (o
       texts edited told,
     )
 
-  -- .. or nothing is told
+  -- the edit that is found, if there is one, is that of this file
   pub edited_so : Ascend now → (found : Option Edited) → IfSome found (λ e. (e.files.items ≡ name ∷ []) × (contents_at before name ≡ Some (unplaced_contents (source_of text).contents))) → IfSome found (λ edited. HaveSameHeaders before (library_of now) × HaveTextsBut before (library_of now) edited)
   edited_so sorted None told = tt
   edited_so sorted (Some e) told = edited_alone sorted told.1 e told.0

@@ -17,7 +17,7 @@ use Rattle.al_unit.specs.Readings.Reading.{Sentence, Fails}
 use Rattle.al_engine_files.specs.Headed.{ReadsHeaders, TextsAreHeaded}
 use Rattle.al_unit_faults.specs.Read.{NamesParentBody}
 
--- a source of the library is that of a text
+-- each file of the library is one of the sources
 source_by : (file : List ℕ) (f : List ℕ × List ℕ) (b : Bool) (others : Option Source) (source : Source) → (others ≡ Some source → (text : List ℕ) × (source_of text ≡ source)) → cond b (Some (source_of f.1)) others ≡ Some source → (text : List ℕ) × (source_of text ≡ source)
 source_by file f true others source rest is = (f.1, cc)
 source_by file f false others source rest is = rest is
@@ -31,7 +31,7 @@ headed_by : (r : Reading) (h : Header) → contents_of r ≡ Headed h → (unit 
 headed_by (Sentence unit) h is = (unit, refl, cc)
 headed_by (Fails place code) h is = absurd (cc)
 
--- a unit of a text, with its header
+-- a unit in a source, with its header
 pub headed_text : (files : Texts) (file : List ℕ) (source : Source) (h : Header) → source_at (library_of files) file ≡ Some source → source.contents ≡ Headed h → (unit : CompilationUnitTree) × (reading_of source.text ≡ Sentence unit) × (header_of unit ≡ h)
 headed_text files file source h is headed =
     let t = source_is files file source is in

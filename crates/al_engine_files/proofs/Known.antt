@@ -1,4 +1,4 @@
--- The predefined units are there, and name none but themselves.
+-- The predefined units exist, and their answers name no other units.
 use Rattle.std.proofs.Common.{◌≡◌, Bool, true, false, ◌&&◌, ◌||◌, List, [], ◌∷◌, Option, Some, None, refl, ◌∙◌, ap, subst, map, if◌then◌else◌}
 use Rattle.std.specs.List.{Contains, find, list_all}
 use Rattle.std.specs.Option.{option_map}
@@ -28,22 +28,22 @@ use Rattle.al_engine_refresh.specs.Settings.{ArePredefined}
 use Rattle.al_engine_files.specs.PredefinedUnits.{answer_with, declared_by, interface_in, package_of, packages, predefined_answer}
 use Rattle.al_engine_files.specs.declared.package.Package.{Package}
 
--- a tree of nothing
+-- a tree without anything in it
 abbrev bare : UnitKey → UnitTree
 bare unit = record { unit = unit; elaboration = None; bodies = []; words = 0; objects = []; flags = []; protected_objects = [] }
 
--- whether a package names the predefined units alone
+-- whether a package names only predefined units
 abbrev names_these : Package → Bool
 names_these p = list_all (has_unit predefined_units) (outcome_units (Sound p.interface (bare p.unit)))
 
--- .. and shows nothing that the linker must find
+-- whether the interface of a package names no symbol that the linker must find
 abbrev shows_nothing : Package → Bool
 shows_nothing p = list_all (λ x. false) (interface_uses p.interface)
 
 abbrev is_closed : Package → Bool
 is_closed p = names_these p && shows_nothing p
 
--- a package that is found, names the predefined units alone and shows nothing
+-- a package that is found; it names only predefined units, and no symbol that the linker must find
 record Found (all : List Package) (u : UnitKey) : Type 0 where
   found_one : Package
   is : find (λ p. same_unit u p.unit) all ≡ Some found_one

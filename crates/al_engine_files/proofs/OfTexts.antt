@@ -1,4 +1,4 @@
--- What is held of files is what their texts are read as.
+-- What is held of files is what is read in their sources.
 use Rattle.std.proofs.Common.{◌≡◌, ℕ, Bool, true, false, List, [], get_or, Option, Some, None, sym, ap, subst, refl, ◌∙◌}
 use Rattle.std.specs.Prelude.{IfSome, IsTrue, MatchOption}
 use Rattle.std.specs.BTreeMap.{is_at}
@@ -18,14 +18,14 @@ use Rattle.al_engine.specs.Texts.{HaveTextsBut, may_differ, text_in}
 use Rattle.al_engine.specs.declared.alike.Edited.{Edited}
 use Rattle.al_engine_files.specs.AdaFiles.{AreOfTexts, IsKnown, WasKept, WereRead}
 
--- a library of texts is that of its own texts
+-- a library of sources is the library of its own sources
 pub are_of_texts : (lib : Library) (files : Texts) → lib ≡ library_of files → AreOfTexts lib
 are_of_texts lib files is = is ∙ ap library_of (sym (ap texts_of is ∙ texts_of-library_of files))
 
 pub files_are : (lib : Library) (files : Texts) → lib ≡ library_of files → texts_of lib ≡ files
 files_are lib files is = ap texts_of is ∙ texts_of-library_of files
 
--- what is held of a file that has this text
+-- what is held of a file that has this source
 module _ (lib : Library) (file text : List ℕ) (source : Source) (is : AreOfTexts lib) (found : Some source ≡ source_at lib file) (same : source.text ≡ text) where
   pub held_source : source ≡ source_of text
   held_source = subst (λ (t : List ℕ). source ≡ source_of t) same (source_of_its_text lib file is source found)
@@ -33,24 +33,24 @@ module _ (lib : Library) (file text : List ℕ) (source : Source) (is : AreOfTex
   pub held_kept : WasKept lib file text true
   held_kept = (ap (option_map (λ (s : Source). unplaced_contents s.contents)) (sym found) ∙ ap (λ (s : Source). Some (unplaced_contents s.contents)) held_source, λ _. ap (λ (o : Option Source). option_map_or (λ (s : Source). s.text) o []) (sym found) ∙ same)
 
--- a source of this text with these contents
+-- a file with this source and these contents
 pub as_source : (text : List ℕ) (source : Source) (contents : Contents) → source ≡ record { text = text; contents = contents } → contents ≡ (source_of text).contents → source ≡ source_of text
 as_source text source contents is same = is ∙ (λ i. record { text = text; contents = same i })
 
--- a file that was read anew, and is read as before
+-- a file that was read again, and is read as before
 pub kept_read : (before : Library) (file text : List ℕ) (kept : Option Bool) (contents : Contents) → contents ≡ (source_of text).contents → IfSome kept (λ same. (contents_at before file ≡ Some (unplaced_contents contents)) × (same ≡ false)) → IfSome kept (WasKept before file text)
 kept_read before file text None contents is has = tt
 kept_read before file text (Some b) contents is has = (has.0 ∙ ap (λ (k : Contents). Some (unplaced_contents k)) is, λ same. let never : true ≡ false = sym same ∙ has.1 in absurd (cc))
 
--- one of a list of files
+-- an element of a list of files
 pub known_item : {A : Type 0} (f : A → List ℕ × List ℕ) (before : Library) (edited : Edited) (xs : List A) (i : ℕ) (a : A) → a ≡ get_or xs i a → IsKnown before edited (f a) → IsKnown before edited (f (get_or xs i a))
 known_item {A} f before edited xs i a is known = subst (λ (x : A). IsKnown before edited (f x)) is known
 
--- a file stays known where more files may differ
+-- a file stays known if more files may differ
 pub more_known : (before : Library) (edited more : Edited) → ((f : List ℕ) → may_differ edited f → may_differ more f) → (file : List ℕ × List ℕ) → IsKnown before edited file → IsKnown before more file
 more_known before edited more kept file known = (known.0, λ never. known.1 (λ may. never (kept file.0 may)))
 
--- a file that was noted is known
+-- a file is known after it was added to the edited ones
 pub now_known : (before : Library) (file text : List ℕ) (kept : Option Bool) (edited : Edited) → IfSome kept (WasKept before file text) → MatchOption kept ⊥ (λ same. same ≡ false → may_differ edited file) → IsKnown before edited (file, text)
 now_known before file text None edited is noted = absurd noted
 now_known before file text (Some true) edited is noted = (is.0, λ never. is.1 refl)
@@ -86,7 +86,7 @@ module _ (before : Library) (files : Texts) (edited : Edited) (names : keys_of b
       let at = λ (file : List ℕ). as_before file (source_at before file) (source_at (library_of files) file) refl refl in
       (record { files = names; contents = λ file. (at file).0 }, λ file never. (at file).1 never)
 
--- the same of the libraries of their texts
+-- the libraries of such files have the same headers
 pub edited_as : (before now : Library) → AreOfTexts before → AreOfTexts now → (found : Option Edited) → IfSome found (λ edited. HaveSameHeaders before now × HaveTextsBut before now edited) → IfSome found (λ edited. HaveSameHeaders (library_of (texts_of before)) (library_of (texts_of now)) × HaveTextsBut (library_of (texts_of before)) (library_of (texts_of now)) edited)
 edited_as before now of_before of_now None is = tt
 edited_as before now of_before of_now (Some edited) is =

@@ -1,4 +1,4 @@
--- The headers of a library of texts.
+-- The headers of a library of sources.
 use Rattle.std.specs.Prelude.{◌≡◌, ℕ, List}
 use Rattle.al_base.specs.Files.{Texts}
 use Rattle.al_tree_syntax.specs.UnitTrees.{CompilationUnitTree}
@@ -9,7 +9,7 @@ use Rattle.al_unit.specs.Readings.{reading_of}
 use Rattle.al_unit.specs.Readings.Reading.{Sentence}
 use Rattle.al_unit_faults.specs.Read.{AreHeaded, NameParentBodies}
 
--- of each text that is a unit, the header of its tree
+-- the header of each source that is a unit is that of its tree
 abbrev pub ReadsHeaders : (List ℕ → Header) → Type 0
 ReadsHeaders header = (text : List ℕ) (unit : CompilationUnitTree) → reading_of text ≡ Sentence unit → header text ≡ header_of unit
 

@@ -1,4 +1,4 @@
--- What the predefined units answer (ARM A.1, A.2, A.10.1, D.8).
+-- The answers of the predefined units (ARM A.1, A.2, A.10.1, D.8).
 use Rattle.std.specs.Prelude.{ℕ, false, List, [], ◌∷◌, Option, Some, None, codes, unwrap_or}
 use Rattle.std.specs.List.{find}
 use Rattle.std.specs.Option.{option_map}
@@ -18,7 +18,7 @@ use Rattle.al_query_outcome.specs.declared.interface.Properties.{Properties}
 use Rattle.al_query_outcome.specs.declared.interface.UnitInterface.{UnitInterface}
 use Rattle.al_engine_files.specs.declared.package.Package.{Package}
 
--- a package that is known by the last identifier of its name
+-- the symbol of a package has the last identifier of its name
 abbrev pub package_symbol : List ℕ → List ℕ → Symbol
 package_symbol name identifier = record { unit = declaration name; name = identifier; number = 0 }
 
@@ -33,11 +33,11 @@ package_properties name identifier parent = record {
   completions = [];
 }
 
--- what the predefined package of this name declares
+-- the declarations of the predefined package of this name
 unfoldable pub declared_by : List ℕ → Declarations
 declared_by name = unwrap_or (predefined name) []
 
--- it declares that in its visible part
+-- a package that has declarations only in its visible part
 abbrev pub visible_alone : Declarations → Parts
 visible_alone declared = record { visible = declared; private_part = []; body = []; stubs = [] }
 
@@ -59,7 +59,7 @@ packages =
     ∷ package_of (codes "ada.real_time") (codes "real_time") (Some ada)
     ∷ []
 
--- what the package of this unit answers to others, among these
+-- the interface of this unit's package, among these
 abbrev pub interface_in : List Package → UnitKey → Option UnitInterface
 interface_in all unit = option_map (λ p. p.interface) (find (λ p. same_unit unit p.unit) all)
 

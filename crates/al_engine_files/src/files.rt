@@ -1,4 +1,4 @@
-// Ada files with what they are read as.
+// Ada files with what is read in them.
 ghost use Rattle.al_unit.specs.Libraries.{library_of};
 ghost use Rattle.al_engine_files.specs.AdaFiles.{FilesAreRead};
 
@@ -12,7 +12,7 @@ use al_unit_graph::Sources;
 use std::alloc::Global;
 use std::marker::Model;
 
-/// Ada files with what the graph of units needs of them.
+/// Ada files with what the graph of units needs of them. It implements [`ReadFiles`].
 pub struct AdaFiles {
     sources: Sources,
 }
@@ -36,7 +36,7 @@ impl Model for AdaFiles {
 }
 
 impl AdaFiles {
-    /// Where a checker takes for a text's header what is read in it, Ada files are read for it. It does nothing.
+    /// Recalls that Ada files are read for every checker that takes as a source's header what is read in it.
     pub fn are_read()
         ensures { FilesAreRead }
     {

@@ -1,7 +1,7 @@
-// Who answers alike for all values of a type.
+// Answers that are the same for all values of a type.
 use al_query::Answers;
 
-/// Answers that are the same for all values of a type, so that what rests on them goes by types alone.
+/// Answers that are the same for all values of a type, so that what depends on them depends only on types.
 pub trait FixedAnswers: Answers {
     ghost use Rattle.std.specs.Prelude.{◌≡◌};
     ghost use Rattle.al_query.specs.declared.query.Query.{Query};
@@ -10,6 +10,6 @@ pub trait FixedAnswers: Answers {
     /// The answers.
     ghost answers: { Query → AnswerKind };
 
-    // Every value gives these.
+    // Every value gives these answers.
     ghost alike: { (one : Self) → Self.table one ≡ answers };
 }

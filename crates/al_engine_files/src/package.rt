@@ -12,7 +12,7 @@ use al_view::{Interface, Seq, Symbol, View, ViewKind};
 use al_view_predefined::predefined_package;
 use std::alloc::Global;
 
-/// A predefined package, and what it answers to questions.
+/// A predefined package, and its answers to look-ups.
 pub(crate) struct Package {
     pub unit: UnitKey,
     pub interface: UnitInterface,
@@ -28,6 +28,10 @@ impl Drop for Package {
 }
 
 /// The declaration of this name.
+///
+/// # Errors
+///
+/// `NoMemory` if the allocator refuses memory.
 pub(crate) fn declaration(alloc: Global, name: &[u8]) -> Result<UnitKey, NoMemory>
     ensures { IfOk result (λ unit. unit ≡ declaration name.now) }
 {
@@ -38,7 +42,7 @@ pub(crate) fn declaration(alloc: Global, name: &[u8]) -> Result<UnitKey, NoMemor
     })
 }
 
-/// What a package is known by.
+/// The symbol of a package.
 fn package_symbol(alloc: Global, name: &[u8], identifier: &[u8]) -> Result<Symbol, NoMemory>
     ensures { IfOk result (λ symbol. symbol ≡ package_symbol name.now identifier.now) }
 {
@@ -51,6 +55,7 @@ fn package_symbol(alloc: Global, name: &[u8], identifier: &[u8]) -> Result<Symbo
     })
 }
 
+// The view of a package.
 fn package_view(alloc: Global, name: &[u8], identifier: &[u8]) -> Result<View, NoMemory>
     ensures { IfOk result (λ view. view ≡ OfPackage (package_symbol name.now identifier.now)) }
 {
@@ -59,7 +64,7 @@ fn package_view(alloc: Global, name: &[u8], identifier: &[u8]) -> Result<View, N
     Ok(view)
 }
 
-/// What a package says of itself.
+/// The properties of a package.
 fn package_properties(
     alloc: Global,
     name: &[u8],
@@ -85,7 +90,7 @@ fn package_properties(
     })
 }
 
-/// What the predefined package of this name declares.
+/// The declarations of the predefined package of this name.
 #[tactic(auto, unfolding(crate::specs::PredefinedUnits::declared_by))]
 fn declared_by(alloc: Global, name: &[u8]) -> Result<Interface, NoMemory>
     ensures { IfOk result (λ declared. declared ≡ declared_by name.now) }
@@ -96,7 +101,7 @@ fn declared_by(alloc: Global, name: &[u8]) -> Result<Interface, NoMemory>
     }
 }
 
-/// Declarations in the visible part alone.
+/// The parts of a package that has declarations only in its visible part.
 fn visible_alone(alloc: Global, visible: Interface) -> Parts
     ensures { result ≡ visible_alone visible }
 {
@@ -108,7 +113,7 @@ fn visible_alone(alloc: Global, visible: Interface) -> Parts
     }
 }
 
-/// What a package answers that says this of itself.
+/// The interface of a package with these properties.
 fn interface_of(
     alloc: Global,
     name: &[u8],
@@ -125,7 +130,7 @@ fn interface_of(
     }
 }
 
-/// One more package.
+/// Adds a package.
 fn push_package(
     alloc: Global,
     all: &mut Seq<Package>,
@@ -146,7 +151,11 @@ fn push_package(
     }
 }
 
-/// One more predefined package.
+/// Adds a predefined package.
+///
+/// # Errors
+///
+/// `NoMemory` if the allocator refuses memory.
 #[tactic(auto, unfolding(crate::specs::PredefinedUnits::package_of))]
 pub(crate) fn add_package(
     alloc: Global,

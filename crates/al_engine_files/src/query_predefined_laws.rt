@@ -1,8 +1,8 @@
-//! Laws of the predefined units, as contracts of functions without code.
+//! A law of the predefined units, as the contract of a function without code.
 ghost use Rattle.al_engine_refresh.specs.Settings.{ArePredefined};
 ghost use Rattle.al_engine_files.specs.PredefinedUnits.{predefined_answer};
 
-/// The predefined units are there, and name none but themselves.
+/// The predefined units exist, and their answers name no other units.
 pub fn units_are_predefined()
     ensures { ArePredefined predefined_answer }
 {}

@@ -1,4 +1,4 @@
-// One file that is read again among others that stay as they are.
+// One file that is read again, among files that are unchanged.
 ghost use Rattle.std.specs.Prelude.{◌≡◌, ◌≤◌, ◌∷◌, [], IfOk, IfSome, OnOk, Some, length};
 ghost use Rattle.std.specs.BTreeMap.{insert_entry};
 ghost use Rattle.al_base.specs.FileLaws.{Ascend};
@@ -17,7 +17,7 @@ use al_unit_graph::{Source, Sources};
 use std::alloc::Global;
 use std::rc::Rc;
 
-/// The text of a file in a list, where it is this one.
+/// The source of a file in a list, if it is this one.
 fn listed<'a>(
     list: &[(&'a [u8], &'a Rc<Vec<u8>>)],
     name: &[u8],
@@ -33,7 +33,7 @@ fn listed<'a>(
     None
 }
 
-/// This text of a file, which is shared with the files.
+/// This source of a file, shared with the files.
 fn shared_text(
     alloc: Global,
     files: &Files,
@@ -51,7 +51,7 @@ fn shared_text(
     }
 }
 
-/// That one file has another text, where it is read as before but for places; else nothing is told.
+/// The edit of one file, if it is read as before except for places; else `None`.
 fn edited_at(
     alloc: Global,
     before: &Sources,
@@ -81,12 +81,12 @@ fn put_in(
     sources.insert(file, source)
 }
 
-/// The files of these texts, of which one alone is another one than in those that were read. What was read elsewhere of the file with the
-/// same text is shared. Where it is read as before, that it alone may have another text.
+/// The files of `before`, of which the one of this name is read again. What `other` holds of that file can be shared, if it has the same source
+/// there. The second result says that only this file may have another source, if it is read as before except for places.
 ///
 /// # Errors
 ///
-/// `NoMemory` where memory was wanted and not given. What is wrong with the file is no error.
+/// `NoMemory` if the allocator refuses memory. An error in the file is a result.
 pub(crate) fn sources_renewed(
     alloc: Global,
     files: &Files,

@@ -1,4 +1,4 @@
-// What the graph of units has of Ada files.
+// What the graph of units needs of Ada files.
 ghost use Rattle.std.specs.Prelude.{◌≡◌, ◌≤◌, ℕ, true, false, List, Some, IfOk, IfSome, IsTrue, MatchOption, OnOk, length};
 ghost use Rattle.std.specs.BTreeMap.{insert_entry};
 ghost use Rattle.al_base.specs.Files.{name_cmp};
@@ -27,7 +27,7 @@ fn contents_of(alloc: Global, reading: &Reading) -> Result<Contents, NoMemory>
     }
 }
 
-/// What the graph of units needs of a text. The tree that is read in it isn't kept.
+/// What the graph of units needs of a source. The tree that is read in it isn't kept.
 fn contents_in(alloc: Global, text: &[u8]) -> Result<Contents, NoMemory>
     requires { length text.now ≤ 1048576 }
     ensures { IfOk result (λ contents. contents_model contents ≡ (source_of text.now).contents) }
@@ -38,7 +38,7 @@ fn contents_in(alloc: Global, text: &[u8]) -> Result<Contents, NoMemory>
     contents
 }
 
-/// The file of a text that is read as this.
+/// A file with this source, which is read as `contents`.
 fn shared_source(
     alloc: Global,
     text: &Rc<Vec<u8>>,
@@ -53,7 +53,7 @@ fn shared_source(
     }
 }
 
-/// No where a file was read as this before, but for places: its text is another one. None where it was read as something else.
+/// `Some(false)` if a file was read as this before, except for places: its source differs. `None` if it was read as something else.
 fn kept_as(before: &Sources, file: &[u8], contents: &Contents) -> Option<bool>
     ensures { IfSome result (λ same. (contents_at before.now file.now ≡ Some (unplaced_contents (contents_model contents.now))) × (same ≡ false)) }
 {
@@ -64,7 +64,7 @@ fn kept_as(before: &Sources, file: &[u8], contents: &Contents) -> Option<bool>
     }
 }
 
-/// The file of a text, which is read. Where it is read as before, whether the text is known to be as it was: it isn't.
+/// A file with this source, which is read. The second result is `Some(false)` if it is read as before except for places: its source differs.
 fn source_read(
     alloc: Global,
     before: &Sources,
@@ -81,7 +81,7 @@ fn source_read(
     Ok((source, kept))
 }
 
-/// What is held of a file, where it has this text.
+/// What is held of a file, if it has this source.
 fn held_with<'a>(before: &'a Sources, file: &[u8], text: &[u8]) -> Option<&'a Rc<Source>>
     requires { AreOfTexts before.now }
     ensures source { IfSome result (λ source. source_model source.now.value ≡ source_of text.now) }
@@ -94,7 +94,7 @@ fn held_with<'a>(before: &'a Sources, file: &[u8], text: &[u8]) -> Option<&'a Rc
     Some(source)
 }
 
-/// What is held of a file, where it has this text, which is shared.
+/// What is held of a file, if it has this source, which is shared.
 fn held_as<'a>(before: &'a Sources, file: &[u8], text: &Rc<Vec<u8>>) -> Option<&'a Rc<Source>>
     requires { AreOfTexts before.now }
     ensures source { IfSome result (λ source. source_model source.now.value ≡ source_of text.now.value.items) }
@@ -103,8 +103,12 @@ fn held_as<'a>(before: &'a Sources, file: &[u8], text: &Rc<Vec<u8>>) -> Option<&
     held_with(before, file, text.as_slice())
 }
 
-/// The file of a text: shared where the file had this text before, and else read. Where it is read as it was, whether it has the text that
-/// it had.
+/// A file with this source: shared if the file had this source before, and else read. If it is read as before except for places, the second result
+/// says whether it has the same source.
+///
+/// # Errors
+///
+/// `NoMemory` if the allocator refuses memory.
 pub(crate) fn held_after(
     alloc: Global,
     before: &Sources,
@@ -123,7 +127,7 @@ pub(crate) fn held_after(
     source_read(alloc, before, file, text)
 }
 
-/// Notes a file that is read as it was, unless it has the text that it had; whether it is read so.
+/// Adds a file to the edited ones if it is read as before except for places and has another source. Gives whether it is read so.
 fn note_kept(
     alloc: Global,
     file: &[u8],
@@ -140,7 +144,7 @@ fn note_kept(
     Ok(true)
 }
 
-/// Puts a file in, and notes it where its text may be another one. Whether it is known to be read as it was.
+/// Reads a file and adds it; also to the edited ones if its source may differ. Gives whether it is known to be read as before, except for places.
 fn add_file(
     alloc: Global,
     before: &Sources,
@@ -164,13 +168,14 @@ fn add_file(
     Ok(is_alike)
 }
 
+// Whether both hold.
 fn both(a: bool, b: bool) -> bool
     ensures { IsTrue result → IsTrue a × IsTrue b }
 {
     a && b
 }
 
-/// Files that were read again, with those of which the texts may be other ones; and whether each is known to be read as it was.
+/// Files that were read again, with those whose sources may differ; and whether each is known to be read as before, except for places.
 #[derive(Drop)]
 struct ReadAgain {
     sources: Sources,
@@ -178,7 +183,7 @@ struct ReadAgain {
     are_alike: bool,
 }
 
-/// The files of these texts.
+/// Reads all files again.
 fn read_each(alloc: Global, files: &Files, before: &Sources) -> Result<ReadAgain, NoMemory>
     requires { AreOfTexts before.now }
     ensures sources { IfOk result (λ r. r.sources ≡ library_of files.now) }
@@ -199,11 +204,11 @@ fn read_each(alloc: Global, files: &Files, before: &Sources) -> Result<ReadAgain
     })
 }
 
-/// The files of these texts. What was read before of a file with the same text is shared.
+/// The files with what is read in them. What was read before of a file with the same source is shared.
 ///
 /// # Errors
 ///
-/// `NoMemory` where memory was wanted and not given. What is wrong with the files is no error.
+/// `NoMemory` if the allocator refuses memory. Errors in the files are a result.
 pub(crate) fn sources_after(
     alloc: Global,
     files: &Files,
@@ -221,12 +226,12 @@ pub(crate) fn sources_after(
     Ok(sources)
 }
 
-/// The files of these texts, as [`sources_after`] gives them. Where they are files of the same names, each with the header that it had but for places, or
-/// none again, of which of them the texts may be other ones. Of a file that is shared nothing is compared.
+/// The files, as [`sources_after`] gives them. If they have the same names as before, and each has the same header as before except for places, or
+/// none again, the second result says which files may have other sources. Nothing is compared for a file that is shared.
 ///
 /// # Errors
 ///
-/// `NoMemory` where memory was wanted and not given. What is wrong with the files is no error.
+/// `NoMemory` if the allocator refuses memory. Errors in the files are a result.
 pub(crate) fn sources_again(
     alloc: Global,
     files: &Files,

@@ -12,7 +12,7 @@ use al_view::{Seq, is_unit};
 use std::alloc::Global;
 use std::marker::Model;
 
-/// The packages Standard, Ada, `Ada.Text_IO` and `Ada.Real_Time`: what they answer to questions. All values of the type answer alike.
+/// The packages Standard, Ada, `Ada.Text_IO` and `Ada.Real_Time`, with their answers to look-ups. All values of the type give the same answers.
 pub struct PredefinedUnits {
     alloc: Global,
     all: Seq<Package>,
@@ -35,7 +35,7 @@ impl Model for PredefinedUnits {
     ghost invariant = { λ p. p.all ≡ packages };
 }
 
-/// One more child of Ada.
+/// Adds a child of Ada.
 fn add_child(
     alloc: Global,
     all: &mut Seq<Package>,
@@ -61,7 +61,7 @@ fn packages(alloc: Global) -> Result<Seq<Package>, NoMemory>
     Ok(all)
 }
 
-/// What the package of this unit answers to others, among these.
+/// The interface of this unit's package, among these.
 fn interface_in<'a>(all: &'a [Package], unit: &UnitKey) -> Option<&'a UnitInterface>
     ensures { option_copied result ≡ interface_in all.now unit.now }
 {
@@ -74,7 +74,7 @@ impl PredefinedUnits {
     ///
     /// # Errors
     ///
-    /// `NoMemory` where memory was wanted and not given.
+    /// `NoMemory` if the allocator refuses memory.
     pub fn new(alloc: Global) -> Result<PredefinedUnits, NoMemory> {
         let all = packages(alloc)?;
         Ok(PredefinedUnits { alloc, all })

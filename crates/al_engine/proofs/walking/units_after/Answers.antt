@@ -10,7 +10,7 @@ use Rattle.al_view.proofs.SymbolLemmas.{same_unit-one}
 use Rattle.al_query.specs.Known.{has_unit}
 use Rattle.al_engine.proofs.walking.units_after.Goals as goal
 
--- the unit at its place, and what stands after it
+-- the unit at its place, and the units after it
 there : (order : List UnitKey) (unit : UnitKey) (i : ℕ) → position (same_unit unit) order ≡ Some i → order ≡ take i order ++ unit ∷ take (length order - (i + 1)) (drop (i + 1) order)
 there order unit i is =
     let at = position-Some (same_unit unit) order i unit is in

@@ -15,7 +15,7 @@ pub read_twice-requires : goal.read_twice-requires
 read_twice-requires g c =
     let files = g.R.ReadFiles.files in edit-taken (λ b. files b.read) files c.self.inside.files c.self.inside.last c.replace-before.result c.self.inside.spare c.self.inside.alone c.replace-before.ensures.value c.self.invariant.1
 
--- where memory is wanting, all that is kept of the units is as it was
+-- if memory runs out, all entries of the units are as before
 pub invariant_of-self-in_err-last : goal.invariant_of-self-in_err-last
 invariant_of-self-in_err-last g c =
     let files = g.R.ReadFiles.files in (
