@@ -51,20 +51,44 @@ impl Listing {
 /// A disk, and the clock of its machine. Each function gives the machine's error if it fails.
 pub trait Disk {
     /// The names in a folder; those of folders only if `others`.
+    ///
+    /// # Errors
+    ///
+    /// The machine's error.
     fn list(&self, alloc: Global, folder: &str, others: bool) -> io::Result<Listing>;
 
     /// What is at a path. No file is opened.
+    ///
+    /// # Errors
+    ///
+    /// The machine's error.
     fn status(&self, path: &str) -> io::Result<Status>;
 
     /// The first bytes of a file, at most `most`.
+    ///
+    /// # Errors
+    ///
+    /// The machine's error.
     fn read(&self, alloc: Global, path: &str, most: u64) -> io::Result<Vec<u8>>;
 
     /// Makes these bytes the contents of a file.
+    ///
+    /// # Errors
+    ///
+    /// The machine's error.
     fn write(&mut self, path: &str, bytes: &[u8]) -> io::Result<()>;
 
     /// The present moment, in nanoseconds since 1970.
+    ///
+    /// # Errors
+    ///
+    /// The machine's error.
     fn now(&self) -> io::Result<u64>;
 
     /// The milliseconds that passed since some moment.
+    ///
+    /// # Errors
+    ///
+    /// The machine's error.
     fn millis(&self) -> io::Result<u64>;
 }

@@ -16,6 +16,7 @@ pub struct Index {
 }
 
 impl Index {
+    /// No sources.
     pub fn new(alloc: Global) -> Index {
         Index {
             places: BTreeMap::new(alloc),
@@ -52,6 +53,7 @@ pub struct Told {
 }
 
 impl Told {
+    /// No names.
     pub fn new(alloc: Global) -> Told {
         Told {
             names: BTreeSet::new(alloc),

@@ -20,6 +20,7 @@ pub struct Screen<O: Sink, E: Sink> {
 }
 
 impl<O: Sink, E: Sink> Screen<O, E> {
+    /// The two outputs, to which nothing was written yet.
     pub fn new(output: O, error: E) -> Screen<O, E>
         requires output { O.faults output < 2 ^ 64 - 1 }
         requires error { E.faults error < 2 ^ 64 - 1 }

@@ -40,6 +40,7 @@ impl Drop for Sources {
 }
 
 impl Sources {
+    /// No sources.
     pub fn new(alloc: Global) -> Sources
         ensures { (result.texts ≡ []) × (result.folders ≡ []) × IsTrue result.are_whole }
     {

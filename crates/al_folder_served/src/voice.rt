@@ -24,6 +24,7 @@ pub struct Voice<K: Sink> {
 }
 
 impl<K: Sink> Voice<K> {
+    /// An output to which nothing was written yet.
     pub fn new(sink: K) -> Voice<K>
         requires { K.faults sink < 2 ^ 64 - 1 }
         ensures { (result.sink ≡ sink) × IsOk result.so_far }
@@ -34,6 +35,7 @@ impl<K: Sink> Voice<K> {
         }
     }
 
+    /// The sink.
     pub fn into_sink(self) -> K
         ensures { result ≡ self.sink }
     {

@@ -220,6 +220,11 @@ fn build_again<L: FolderLibrary, D: Disk, O: Sink, E: Sink, N: Run>(
     Ok(())
 }
 
+/// The milliseconds that passed since some moment.
+///
+/// # Errors
+///
+/// `Clock` if the clock can't be read.
 pub fn millis<D: Disk>(disk: &D) -> Result<u64, Failure> {
     match disk.millis() {
         Ok(millis) => Ok(millis),
