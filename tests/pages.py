@@ -1,21 +1,27 @@
 #!/usr/bin/env python3
 """pages.py: whether what the pages name is there.
 
-- Each link of a page leads to a file of the repository, and to a heading of it where it names one.
-- Each name between backquotes of a crate, each path to an item (`part::item`) and each name of several words (`two_words`) stands in crates.txt, the text of the crates or the scripts,
+- Each link of a page leads to a file of the repository, and to a heading of it if it names one, also as `[page](file), "Heading"`.
+- Each name between backquotes of a crate, each path to an item (`part::item`) and each name of several words (`two_words`) is in crates.txt, the sources of the crates or the scripts,
   or is a test's.
-- Each file that a command of the README names is there.
-- Each list of CONTRIBUTING.md names all files of the crates in which its model, the words of its heading, stands: no fewer and no more.
+- Each file that a command of the README names is there, and each `grep` of it finds something. (tests/folders.py plays its examples, tests/installing.py installs, and
+  tests/run is what runs this.)
+- Each list of CONTRIBUTING.md names all files of the crates in which its model, the words of its heading, is: no fewer and no more.
+- No page is longer than its limit, nor are all together.
 
 Prints each failure, and last `N passed, M failed`. `pages.py lists` writes the lists of CONTRIBUTING.md anew.
 """
 import functools
 import pathlib
 import re
+import subprocess
 import sys
 
 ROOT = pathlib.Path(__file__).resolve().parent.parent
-PAGES = [*sorted(ROOT.glob("*.md")), *sorted((ROOT / "docs").glob("*.md"))]
+PAGES = [*sorted(ROOT.glob("*.md")), *sorted((ROOT / "docs").glob("*.md")), ROOT / "drafts/README.md"]
+# How many words a page has at most, and all pages.
+LIMITS = {"README.md": 1_000, "CONTRIBUTING.md": 1_200, "docs/PROVED.md": 4_500, "docs/DECISIONS.md": 6_000}
+LIMIT = 48_926
 CONTRIBUTING = ROOT / "CONTRIBUTING.md"
 # A list: its heading with the model's words in backquotes after `as`, what is said of it, and lines of a crate and its files.
 LIST = re.compile(r"^(### [^\n]*, as (`[^\n]*`)\n\n(?:[^\n#-][^\n]*\n+)*)((?:- `\w+`: [^\n]*\n)*)\n*", re.MULTILINE)
@@ -36,6 +42,11 @@ def headings(path):
     return {anchor(it.replace("`", "")) for it in re.findall(r"^#+ (.*)$", path.read_text(), re.MULTILINE)}
 
 
+def has_part(path, begins):
+    """Whether a heading of the page, or a paragraph of it by its bold words, begins so."""
+    return any(it.startswith(begins) for it in [*headings(path), *map(anchor, re.findall(r"^\*\*(.*?)\*\*", path.read_text(), re.MULTILINE))])
+
+
 def links(path):
     """Of each link of a page to a file whether it leads there."""
     for target in re.findall(r"\]\(([^)\s]+)\)", path.read_text()):
@@ -44,6 +55,8 @@ def links(path):
         file, _, place = target.partition("#")
         to = (path.parent / file).resolve() if file else path
         yield target, to.exists() and (not place or place in headings(to))
+    for file, heading in re.findall(r"\]\(([^)\s:]+\.md)\), \"([^\"\n]+)\"", path.read_text()):
+        yield f'{file}, "{heading}"', has_part((path.parent / file).resolve(), anchor(heading))
 
 
 @functools.lru_cache(maxsize=None)
@@ -63,7 +76,7 @@ def texts():
 def words():
     """All words of the crates' texts, of the scripts and of stored replies, and the names of tests and wrong bodies."""
     others = [it.read_text(errors="replace") for form in ("tests/*.py", "bench/**/*.py", "tools/*.py", "tests/sessions/*.out") for it in ROOT.glob(form)]
-    tests = {it.stem for form in ("tests/*/*", "bench/*/*", "crates/*/*/*.edit") for it in ROOT.glob(form)}
+    tests = {it.stem for form in ("tests/*/*", "bench/*/*", "drafts/*", "crates/*/*/*.edit") for it in ROOT.glob(form)}
     return crates() | tests | set(re.findall(r"\w+", " ".join([*texts().values(), *others])))
 
 
@@ -80,16 +93,27 @@ def names(path):
 
 
 def commands():
-    """Of each file that a command of the README names whether it is there."""
-    for block in re.findall(r"(?:^    [^\n]*\n)+|^```[^\n]*\n.*?^```", (ROOT / "README.md").read_text(), re.MULTILINE | re.DOTALL):
-        for line in re.findall(r"^(?:    |\$ )((?:cd|bash|python3|rt|out/\w+) [^#\n]*)", block, re.MULTILINE):
-            folder = ROOT
-            for command in line.split("&&"):
-                given = command.split()
-                if given[0] == "cd":
-                    folder = folder / given[1]
-                for it in [it for it in given[1:] if "/" in it or it == "stdin"]:
-                    yield line.strip(), it.startswith("out/") or (ROOT if given[0] == "cd" else folder).joinpath(it).exists()
+    """Of each file that a command of the README names whether it is there, and of each `grep` whether it finds something."""
+    text = (ROOT / "README.md").read_text()
+    lines = [it for block in re.findall(r"(?:^    [^\n]*\n)+|^```[^\n]*\n.*?^```", text, re.MULTILINE | re.DOTALL) for it in re.findall(r"^(?:    |\$ )([^#\n]*)", block, re.MULTILINE)]
+    for line in (it.strip() for it in [*lines, *code_of(text)]):
+        folder = ROOT
+        for command in line.split("&&") if re.match(r"(?:cd|bash|python3|rt|grep|adabuild|out/\w+) ", line) else []:
+            given = command.split()
+            if given[0] == "grep":
+                yield line, bool(subprocess.run(command, shell=True, cwd=folder, capture_output=True).stdout)
+            for it in [it for it in given[1:] if "/" in it and not it.startswith(("[", "~", "/"))]:
+                yield line, it.startswith("out/") or any(folder.glob(it))
+            if given[0] == "cd":
+                folder = ROOT / given[1]
+
+
+def lengths():
+    """Of each page with a limit, and of all together, whether it keeps its limit."""
+    words = {str(it.relative_to(ROOT)): len(it.read_text().split()) for it in PAGES}
+    for page, limit in [*LIMITS.items(), ("all pages", LIMIT)]:
+        long = words[page] if page in words else sum(words.values())
+        yield f"{page} has {long} words, of at most {limit}", long <= limit
 
 
 def list_of(model):
@@ -124,7 +148,7 @@ def main(given):
             for it, is_there in checks(path):
                 passed += is_there
                 failed += [f"{path.relative_to(ROOT)}: failed: {what} {it}"] * (not is_there)
-    for what, checks in (("README.md: failed: command", commands), ("CONTRIBUTING.md: failed: list", lists)):
+    for what, checks in (("README.md: failed: command", commands), ("CONTRIBUTING.md: failed: list", lists), ("failed: limit", lengths)):
         for it, is_there in checks():
             passed += is_there
             failed += [f"{what} {it}"] * (not is_there)

@@ -1,4 +1,4 @@
-// The library of Ada units, as folders are built with it.
+// The library of Ada units, with which folders are built.
 ghost use Rattle.std.specs.Prelude.{◌≡◌, IfOk};
 ghost use Rattle.al_session_served.specs.Library.{empty};
 ghost use Rattle.al_session.specs.Meanings.{library_meaning};
@@ -12,12 +12,16 @@ use al_session_served::{Built, RunReport, UnitLibrary};
 use al_unit::AdaText;
 use std::alloc::Global;
 
-/// A library of Ada units over a checker.
+/// A library of Ada units, with a checker.
 pub struct AdaLibrary<C: UnitCheck> {
     engine: Engine<C>,
 }
 
-/// A library with no file and no build.
+/// A library without files and builds.
+///
+/// # Errors
+///
+/// `NoMemory` if the allocator refuses memory.
 pub fn new_library<C: UnitCheck<Text = AdaText> + Drop>(
     alloc: Global,
     checker: C,
@@ -29,8 +33,8 @@ pub fn new_library<C: UnitCheck<Text = AdaText> + Drop>(
 }
 
 impl<C: UnitCheck + Drop> AdaLibrary<C> {
-    /// Leaves all that is kept as it is: the system takes the memory back at the end of the process, and letting go of it would only
-    /// take time.
+    /// Ends the use of the library without freeing its memory: the system takes it back at the end of the process, and freeing it would only take
+    /// time.
     pub fn leave(self) {
         let AdaLibrary { engine } = self;
         std::mem::forget(engine);

@@ -16,6 +16,11 @@ pub struct Host<'a, R> {
 }
 
 impl<'a, R: Clock> Host<'a, R> {
+    /// The disk of a machine.
+    ///
+    /// # Errors
+    ///
+    /// The machine's error if its clock can't be read.
     pub fn new(rt: &'a R) -> io::Result<Host<'a, R>> {
         let start = Instant::now(rt)?;
         Ok(Host { rt, start })
@@ -74,7 +79,7 @@ impl<R: Files + Clock + AllocGlobal + Clone + Drop> Disk for Host<'_, R> {
     }
 }
 
-// Adds the name of what is in a folder.
+// Adds the name of an entry of a folder.
 fn add_name<R: Files + Clone + Drop>(
     alloc: Global,
     listing: &mut Listing,
@@ -90,6 +95,7 @@ fn add_name<R: Files + Clone + Drop>(
     Ok(())
 }
 
+// What there is, by what the machine says.
 fn kind_of(told: &Metadata) -> PathKind {
     if told.is_file() {
         PathKind::File
@@ -100,6 +106,7 @@ fn kind_of(told: &Metadata) -> PathKind {
     }
 }
 
+// The stamp of a file, if the machine has one.
 fn stamp_of(told: &Metadata) -> Option<Stamp> {
     match told.modified() {
         Ok(changed) => Some(Stamp {
@@ -110,7 +117,7 @@ fn stamp_of(told: &Metadata) -> Option<Stamp> {
     }
 }
 
-// Nanoseconds since 1970.
+// The nanoseconds since 1970 at a time.
 fn since_1970(time: SystemTime) -> u64 {
     match time.duration_since(UNIX_EPOCH) {
         Ok(passed) => passed
@@ -121,13 +128,14 @@ fn since_1970(time: SystemTime) -> u64 {
     }
 }
 
-/// The lines of a reader.
+/// The lines that a reader reads.
 #[derive(Drop)]
 pub struct Lines<B> {
     reader: B,
 }
 
 impl<B> Lines<B> {
+    /// The lines that this reader reads.
     pub fn new(reader: B) -> Lines<B> {
         Lines { reader }
     }

@@ -1,16 +1,16 @@
-// What the words of the command line ask to be shown of a program and of its run.
+// What the command line asks to be shown of a program and of its run.
 use crate::options::Options;
 use al_folder::number_of;
 use al_trace::TraceFormat;
 
 const MAX_FROM: u32 = 1_000_000_000;
 
-/// A file that a trace is written to.
+/// The file that a trace is written to.
 #[derive(Clone, Copy)]
 pub struct TraceRequest<'a> {
     pub file: &'a str,
     pub format: TraceFormat,
-    /// After how many events its rows begin.
+    /// The number of events after which its rows begin.
     pub from: u64,
 }
 
@@ -23,7 +23,11 @@ pub struct Looks<'a> {
 }
 
 impl<'a> Looks<'a> {
-    /// What the words ask for, or the line that says what is wrong with them.
+    /// What the command line asks for.
+    ///
+    /// # Errors
+    ///
+    /// The line that says what is wrong with it.
     pub fn of(options: &Options<'a>) -> Result<Looks<'a>, &'static str> {
         let runs = options.run || options.watch || options.load.is_some();
         let observes = options.trace.is_some() || options.profile;

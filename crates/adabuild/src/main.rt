@@ -1,7 +1,9 @@
-//! The program `adabuild`: builds and runs folders of Ada sources.
+//! The program `adabuild` builds and runs folders of Ada sources.
 //!
-//! What its words ask for is done by `al_folder_served`, over a library of Ada units, the machine's disk and its two outputs.
-//! The exit status is 0 if all was done, 1 if there is no program, 2 if the words have another form, 3 if an exception ended the run.
+//! The work is done by `al_folder_served`, over a library of Ada units, the machine's disk and its two outputs. `words`, `options` and `looks` read
+//! the command line; `host` is the machine, `ada_library` the library, and `observing` traces, profiles and listings.
+//!
+//! The exit status is 0 if all was done, 1 if there is no program, 2 if the command line is wrong, 3 if an exception ended the run.
 #![tactic(auto)]
 
 ghost use Rattle.std.specs.Prelude.{◌≤◌, ◌<◌};
@@ -66,7 +68,7 @@ fn without_memory<R: Eprint>(rt: &R) -> ExitCode {
     exit_code(Ending::NotBuilt)
 }
 
-// Prints why the program can't go on, if it can still print.
+// Prints why the program can't go on, if it still can.
 fn tell_failure<O: Sink, E: Sink>(screen: &mut Screen<O, E>, failure: Failure) {
     let why = match failure {
         Failure::Memory => b"error: out of memory".as_slice(),
@@ -78,7 +80,7 @@ fn tell_failure<O: Sink, E: Sink>(screen: &mut Screen<O, E>, failure: Failure) {
     let _ = screen.tell_line(&[why]);
 }
 
-// Does what the words of the command line ask for.
+// Does what the command line asks for.
 fn outcome_of<R: Env + Files + Input + Clock + AllocGlobal + Clone + Drop, O: Sink, E: Sink>(
     rt: &R,
     screen: &mut Screen<O, E>,
@@ -130,7 +132,7 @@ fn load_asked<R: Files + AllocGlobal, D: Disk, O: Sink, E: Sink>(
     }
 }
 
-// Builds what is asked for, with what its project says.
+// Builds what is asked for, with what its project file adds.
 fn build_asked<R: Files + Input + AllocGlobal, D: Disk, O: Sink, E: Sink>(
     rt: &R,
     disk: &mut D,
@@ -153,12 +155,12 @@ fn build_asked<R: Files + Input + AllocGlobal, D: Disk, O: Sink, E: Sink>(
     }
 }
 
-// How the program ends: the exit status also says that a trace couldn't be written.
+// The ending for the exit status: `NotBuilt` if a trace couldn't be written.
 fn ending_with(wrote: bool, ending: Ending) -> Ending {
     if wrote { ending } else { Ending::NotBuilt }
 }
 
-// Builds each main unit once, or the one again and again.
+// Builds each main unit once, or the only one again and again.
 fn build<D: Disk, O: Sink, E: Sink, S: LineSource, N: Run>(
     alloc: Global,
     disk: &mut D,
@@ -211,7 +213,7 @@ fn explain<O: Sink, E: Sink>(
     }
 }
 
-// Prints the page of a code, or all pages. Returns whether there is one.
+// Prints the page of a code, or all pages. Gives whether there is one.
 fn put_pages<O: Sink, E: Sink>(
     alloc: Global,
     screen: &mut Screen<O, E>,
@@ -248,7 +250,7 @@ fn usage<O: Sink, E: Sink>(screen: &mut Screen<O, E>, line: &[u8]) -> Result<End
     Ok(Ending::Usage)
 }
 
-// The words of the command line, the program's own first; none if one of them isn't UTF-8.
+// The words of the command line, beginning with the program's own name; `None` if one of them isn't UTF-8.
 fn words_of<R: Env + AllocGlobal>(rt: &R) -> io::Result<Option<Vec<String>>> {
     match std::env::args(rt) {
         Ok(words) => Ok(Some(words.collect(rt.alloc())?)),

@@ -1,4 +1,4 @@
-// Who looks on at runs: a trace that is written to a file, a profile on the standard output, or nobody; and listings.
+// What is shown of runs: a trace that is written to a file, a profile on the standard output, or nothing; and listings of code.
 ghost use Rattle.std.specs.Prelude.{◌≤◌, IfOk};
 
 use crate::looks::Looks;
@@ -28,23 +28,23 @@ impl SourceLines for Texts<'_> {
     }
 }
 
-// Who looks on.
+// What watches a run.
 #[derive(Drop)]
 enum Eye<W: Write> {
     Nobody,
-    // A file can't be written, for this cause.
+    // The file can't be written, for this reason.
     Blind(io::Error),
     Trace(Trace<W>),
     Profile(Profile),
 }
 
-/// Who looks on at the runs of programs, and shows what was seen.
+/// Watches the runs of programs, and shows what it saw.
 pub struct Observer<'a, R: HostFiles> {
     rt: &'a R,
     alloc: Global,
     looks: Looks<'a>,
     tick: u32,
-    /// Whether a program is run that is shown.
+    /// Whether a program that is shown is also run.
     pub runs: bool,
     /// Whether each trace could be written.
     pub wrote: bool,
@@ -66,7 +66,7 @@ impl<R: HostFiles> Drop for Observer<'_, R> {
 }
 
 impl<'a, R: HostFiles + AllocGlobal> Observer<'a, R> {
-    /// Of what is asked for, with a tick of the clock after each `tick` instructions.
+    /// An observer for what is asked for, with a tick of the clock after every `tick` instructions.
     pub fn new(rt: &'a R, looks: Looks<'a>, tick: u32, runs: bool) -> Observer<'a, R> {
         Observer {
             rt,
@@ -79,7 +79,7 @@ impl<'a, R: HostFiles + AllocGlobal> Observer<'a, R> {
         }
     }
 
-    // Who is to look on at a run of the image.
+    // What is to watch a run of the image.
     fn eye_of(&self, image: &Image) -> Result<Eye<R::File>, NoMemory> {
         if self.looks.profile {
             return Ok(Eye::Profile(Profile::new(self.alloc, image)?));
@@ -97,7 +97,7 @@ impl<'a, R: HostFiles + AllocGlobal> Observer<'a, R> {
         }
     }
 
-    // Prints that the file of the trace can't be written, for this cause.
+    // Prints that the file of the trace can't be written, and why.
     fn tell_blind<O: Sink, E: Sink>(
         &mut self,
         screen: &mut Screen<O, E>,
@@ -182,7 +182,7 @@ impl<R: HostFiles + AllocGlobal> Run for Observer<'_, R> {
     }
 }
 
-// Prints where the tasks are, if the program has tasks and didn't finish.
+// Prints what the tasks are doing, if the program has tasks and didn't finish.
 fn tell_tasks<O: Sink, E: Sink>(
     alloc: Global,
     screen: &mut Screen<O, E>,

@@ -1,9 +1,9 @@
-// The words of the command line.
+// The options on the command line.
 use clap::error::ErrorKind;
 use clap::{Arg, ArgAction, ArgMatches, Command};
 use std::alloc::{AllocError, Global};
 
-/// The words of the command line, one by one.
+/// The options on the command line, one by one.
 #[derive(Drop)]
 pub struct Options<'a> {
     pub help: bool,
@@ -35,7 +35,7 @@ const FLAGS: [&str; 10] = [
     "help", "version", "all", "run", "order", "plain", "force", "watch", "listing", "profile",
 ];
 
-// .. with one.
+// The options with a value.
 const VALUES: [&str; 9] = [
     "steps", "tick", "image", "load", "depends", "format", "explain", "trace", "from",
 ];
@@ -66,16 +66,16 @@ fn names_of<'a>(alloc: Global, matches: &ArgMatches<'a>) -> Result<Vec<&'a str>,
     }
 }
 
-/// What the words are.
+/// What the command line is.
 #[derive(Drop)]
 pub enum Parsed<'a> {
     Options(Options<'a>),
-    /// They have another form, which this line says.
+    /// It is wrong, and this line says how.
     Wrong(String),
 }
 
 impl<'a> Options<'a> {
-    /// Reads the words, the program's own first.
+    /// Reads the command line, which begins with the program's own name.
     ///
     /// # Errors
     ///

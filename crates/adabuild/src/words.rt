@@ -1,4 +1,4 @@
-// What the words of the command line ask for.
+// What the command line asks for.
 use crate::looks::Looks;
 use crate::options::{Options, Parsed};
 use al_explain::code_named;
@@ -69,15 +69,19 @@ const MAX_STEPS: u32 = 1_000_000_000;
 pub enum Asked<'a> {
     Help,
     Version,
-    /// The page of a code; all pages if it is none.
+    /// The page of a code; all pages if it is `None`.
     Explain(Option<u16>),
     Load(LoadRequest<'a>, Looks<'a>),
     Build(Request<'a>, Looks<'a>),
-    /// The words have another form, which this line says.
+    /// The command line is wrong, and this line says how.
     Wrong(String),
 }
 
-/// What the words ask for, of which the first is the program's own.
+/// What the command line asks for, which begins with the program's own name.
+///
+/// # Errors
+///
+/// A [`Failure`] if memory runs out.
 pub fn read_words<'a, D: Disk>(
     alloc: Global,
     disk: &D,
@@ -127,7 +131,7 @@ fn explained<'a>(alloc: Global, word: &str) -> Result<Asked<'a>, Failure> {
     Ok(Asked::Explain(Some(code)))
 }
 
-// The number in a word, if there is a word; if it isn't such a number, the word.
+// The number in a word, if there is a word; if that isn't a number from 1 to `most`, the word.
 fn number_in<'a>(word: Option<&'a str>, most: u32) -> Result<Option<u32>, &'a str> {
     match word {
         Some(word) => match number_of(most, word) {
@@ -207,7 +211,7 @@ fn build_of<'a, D: Disk>(
     Ok(Asked::Build(request, looks))
 }
 
-// The form in a word, if there is a word; if it isn't a form, the word.
+// The form in a word, if there is a word; if that isn't a form, the word.
 fn depends_in<'a>(word: Option<&'a str>) -> Result<Option<DependsForm>, &'a str> {
     match word {
         None => Ok(None),
@@ -218,7 +222,7 @@ fn depends_in<'a>(word: Option<&'a str>) -> Result<Option<DependsForm>, &'a str>
     }
 }
 
-// The form of diagnostics in a word, if there is a word; nothing if it isn't a form.
+// The form of diagnostics in a word, if there is a word; `None` if it isn't a form.
 fn form_in(word: Option<&str>) -> Option<Form> {
     match word {
         None => Some(Form::Text),
@@ -240,7 +244,7 @@ fn wrong_name<'a>(alloc: Global, word: &str) -> Result<Asked<'a>, Failure> {
     Ok(Asked::Wrong(line))
 }
 
-// A build as the options say, of no unit and no folder.
+// The build that the options ask for, without its units and folders.
 fn request_of<'a>(
     alloc: Global,
     options: &Options<'a>,
@@ -266,7 +270,7 @@ fn request_of<'a>(
     }
 }
 
-// What of a build doesn't fit together.
+// What in a request doesn't fit together, if anything.
 fn misfit_of(request: &Request<'_>) -> Option<&'static str> {
     if request.units.is_empty() && request.project.is_none() {
         return Some("error: UNIT is missing, the main procedure");
@@ -280,7 +284,7 @@ fn misfit_of(request: &Request<'_>) -> Option<&'static str> {
     None
 }
 
-// Adds the folder or the unit that a word names. Returns whether it names one.
+// Adds the folder or the unit that a word names. Gives whether it names one.
 fn add_name<D: Disk>(
     alloc: Global,
     disk: &D,
@@ -294,7 +298,7 @@ fn add_name<D: Disk>(
     add_unit(alloc, word, request)
 }
 
-// Whether a word after the first UNIT names a folder: one is there, or no unit has such a name.
+// Whether a word after the first UNIT names a folder: there is one, or no unit has such a name.
 fn names_folder<D: Disk>(disk: &D, word: &str) -> bool {
     if word.ends_with(".adb") {
         return false;
@@ -305,7 +309,7 @@ fn names_folder<D: Disk>(disk: &D, word: &str) -> bool {
     }
 }
 
-// Adds the unit that a word names, and the folder before it. Returns whether it names one.
+// Adds the unit that a word names, and the folder before it. Gives whether it names one.
 fn add_unit(alloc: Global, word: &str, request: &mut Request<'_>) -> Result<bool, Failure> {
     let (folder, name) = match word.rsplit_once('/') {
         Some((folder, name)) => (Some(folder), name),

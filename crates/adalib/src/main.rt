@@ -1,10 +1,12 @@
-//! The program `adalib [--tick N] [FILE]`: a session over a file's commands, or over those of the standard input, with
-//! the replies on the standard output.
+//! The program `adalib [--tick N] [FILE]` serves a session: it reads commands from a file or from the standard input, and writes their replies on the
+//! standard output.
 //!
-//! Exit status: 0 at the end of the session; 1 if a device fails, the file can't be opened or memory is refused outside
-//! the session, with nothing more on the standard output and the cause on the standard error; 2 if the session ends by a
-//! put whose bytes aren't there as announced, and if the words have another form or aren't UTF-8, with the usage line on
-//! the standard error.
+//! The exit status is
+//! - 0 at the end of the session;
+//! - 1 if a device fails, the file can't be opened, or memory runs out outside the session. Nothing more is then written on the standard output, and
+//!   the cause is on the standard error;
+//! - 2 if the session ends by a `put` that has fewer bytes than it announces; also if the command line is wrong or isn't UTF-8, with the usage line
+//!   on the standard error.
 #![tactic(auto)]
 
 ghost use Rattle.std.specs.Prelude.{◌≤◌};

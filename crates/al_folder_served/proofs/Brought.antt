@@ -1,4 +1,5 @@
--- Files that are brought to others: those that are gone are deleted one by one, and then those that are new or have another text are put.
+-- Files that are replaced by others: those that are gone are deleted one by one, and then those that are new or have another
+-- source are put.
 use Rattle.std.proofs.Common.{◌≡◌, ◌<◌, ◌≤◌, ℕ, zero, suc, Bool, true, false, cond, not, ◌&&◌, nat_lt, nat_le, List, [], ◌∷◌, ◌++◌, ◌||◌, Option, Some, None, is_some, Result, Ok, Err, is_ok, OnOk, IfErr, length, get_or, map, take, drop, ⊎_elim, refl, sym, ap, subst, ◌∙◌, arith}
 use Rattle.std.specs.Cmp.{tied_itself, eq_by_cmp_equiv}
 use Rattle.std.specs.Cmp.Lexicographic.{nat_list_cmp_total}
@@ -30,7 +31,7 @@ use Rattle.al_folder_served.proofs.SameFiles.{tied, text_of_first, same_files}
 
 -- ---- a file at a place
 
--- a name below all is below the one at a place
+-- a name below all others is below the one at a place
 below_at : (es : Texts) (k : List ℕ) (i : ℕ) (e : List ℕ × List ℕ) → AllByRecursion (λ n. name_cmp k n ≡ Less) (keys_of es) → i < length es → e ≡ get_or es i e → name_cmp k e.0 ≡ Less
 below_at [] k i e below within is = absurd (omega (arith, within))
 below_at (f ∷ fs) k zero e below within is = ap (λ g. name_cmp k g.0) is ∙ below.0
@@ -61,13 +62,13 @@ at_end [] i e sorted within is = absurd (omega (arith, within))
 at_end (f ∷ fs) zero e sorted within is = subst (λ g. text_of (f ∷ []) g.0 ≡ Some g.1) (sym is) (text_of_first f [])
 at_end (f ∷ fs) (suc i) e sorted within is = rw (above_first f fs i e sorted.0 (omega (arith, within)) is) (at_end fs i e sorted.1 (omega (arith, within)) is)
 
--- and no other is that isn't among those before it
+-- no other name is among those up to it that isn't among those before it
 no_other : (es : Texts) (i : ℕ) (e : List ℕ × List ℕ) (q : List ℕ) → i < length es → e ≡ get_or es i e → is_eq (name_cmp q e.0) ≡ false → text_of (take (suc i) es) q ≡ text_of (take i es) q
 no_other [] i e q within is apart = absurd (omega (arith, within))
 no_other (f ∷ fs) zero e q within is apart = let off : is_eq (name_cmp q f.0) ≡ false = ap (λ g. is_eq (name_cmp q g.0)) (sym is) ∙ apart in rw off refl
 no_other (f ∷ fs) (suc i) e q within is apart = ap (cond (is_eq (name_cmp q f.0)) (Some f.1)) (no_other fs i e q (omega (arith, within)) is apart)
 
--- what is among the first is there
+-- a name among the first ones is there
 there_first : (es : Texts) (i : ℕ) (q : List ℕ) → is_some (text_of (take i es) q) ≡ true → is_some (text_of es q) ≡ true
 there_first [] zero q is = is
 there_first [] (suc i) q is = is
@@ -94,7 +95,7 @@ names-filter p (e ∷ es) = by (names-filter p es) (p e.0)
 pub Ascend-still_there : (now files : Texts) → Ascend files → Ascend (still_there now files)
 Ascend-still_there now files sorted = subst (IsStrictlySortedBy name_cmp) (sym (names-filter (λ k. is_some (text_of now k)) files)) (IsStrictlySortedBy-filter name_cmp (λ k. is_some (text_of now k)) (keys_of files) sorted)
 
--- ---- one by one, those that are gone are deleted
+-- ---- those that are gone are deleted, one by one
 
 -- up to a place
 abbrev pub deleted_to : Texts → Texts → ℕ → Texts
@@ -123,7 +124,7 @@ deletes_no_other now (f ∷ fs) (suc i) e within is there = by (deletes_no_other
 pub deleted_all : (now files : Texts) (i : ℕ) → length files ≤ i → deleted_to now files i ≡ still_there now files
 deleted_all now files i past = ap (λ es. still_there now es ++ drop i files) (take_all i files past) ∙ ap (λ es. still_there now files ++ es) (drop_all i files past) ∙ append-nil (still_there now files)
 
--- the next one is there yet
+-- the next one is still there
 pub not_yet_deleted : (now files : Texts) (i : ℕ) (e : List ℕ × List ℕ) → Ascend files → i < length files → e ≡ get_or files i e → text_of (deleted_to now files i) e.0 ≡ Some e.1
 unfolding IsStrictlySortedBy
 not_yet_deleted now [] i e sorted within is = absurd (omega (arith, within))
@@ -134,9 +135,9 @@ not_yet_deleted now (f ∷ fs) (suc i) e sorted within is = by (not_yet_deleted 
     by rest true = rw (above_first f fs i e sorted.0 (omega (arith, within)) is) rest
     by rest false = rest
 
--- ---- one by one, those of the others are put that have another text
+-- ---- those of the others that have another source are put, one by one
 
--- up to a place: the first ones have their texts, and all others the texts that they had
+-- up to a place: the first ones have their sources, and all others have the same sources as before
 pub record ArePutTo (now had files : Texts) (i : ℕ) : Type 0 where
   pub ascend : Ascend files
   pub texts : (name : List ℕ) → text_of files name ≡ option_or (text_of (take i now) name) (text_of had name)
@@ -145,7 +146,7 @@ pub none_put : (now had files : Texts) → files ≡ had → Ascend files → Ar
 none_put now had files are sorted = record { ascend = sorted; texts = λ name. ap (λ es. text_of es name) are }
 
 module _ (now had files : Texts) (i : ℕ) (e : List ℕ × List ℕ) (sorted : Ascend now) (within : i < length now) (is : e ≡ get_or now i e) (put : ArePutTo now had files i) where
-  -- under another name than that at the place all is as before
+  -- under a name other than that at the place, everything is as before
   module _ (q : List ℕ) (apart : is_eq (name_cmp q e.0) ≡ false) where
     other_text : option_or (text_of (take i now) q) (text_of had q) ≡ option_or (text_of (take (suc i) now) q) (text_of had q)
     other_text = ap (λ t. option_or t (text_of had q)) (sym (no_other now i e q within is apart))
@@ -175,11 +176,11 @@ module _ (now had files : Texts) (i : ℕ) (e : List ℕ × List ℕ) (sorted : 
         (cases_Bool (is_eq (name_cmp q e.0)));
   }
 
--- what was there under the name of the one at a place is still there
+-- the file that was there under the name at the place is still there
 pub still_had : (now before : Texts) (i : ℕ) (e : List ℕ × List ℕ) → Ascend now → i < length now → e ≡ get_or now i e → text_of before e.0 ≡ Some e.1 → text_of (still_there now before) e.0 ≡ Some e.1
 still_had now before i e sorted within is had = text_of-still_there now before e.0 ∙ ap (λ t. cond (is_some t) (text_of before e.0) None) (text_of_at now i e sorted within is) ∙ had
 
--- where all are put, and the others were still there, no other is there
+-- if all are put, and the others were still there, no other is there
 pub all_put : (now before files : Texts) (i : ℕ) → Ascend now → length now ≤ i → ArePutTo now (still_there now before) files i → files ≡ now
 all_put now before files i sorted past put = same_files files now put.ascend sorted (λ q. put.texts q ∙ ap (λ es. option_or (text_of es q) (text_of (still_there now before) q)) (take_all i now past) ∙ by q (text_of now q) refl)
   where
@@ -198,7 +199,7 @@ any-name test (e ∷ es) = by (any-name test es) (test e.0)
     by rest false = rest
 
 module _ (now before files : Texts) (i : ℕ) (put : ArePutTo now (still_there now before) files i) where
-  -- only what is there now is there
+  -- only the files of now are there
   no_more : (q : List ℕ) → is_some (text_of files q) ≡ true → is_some (text_of now q) ≡ true
   no_more q there = by (text_of (take i now) q) refl (sym (ap is_some (put.texts q)) ∙ there)
     where
@@ -231,7 +232,7 @@ module _ (now before files : Texts) (i : ℕ) (put : ArePutTo now (still_there n
       found q true same any = ap (λ n. is_some (text_of now n)) (tied q e.0 same) ∙ ap is_some there
       found q false apart any = no_more q (sym (any-name (is_at (name_cmp q)) files) ∙ (rw apart at any))
 
--- ---- the files of a list that is gone over
+-- ---- the files of a list that a loop goes over
 module _ {A : Type 0} (v : A → List ℕ × List ℕ) (xs : List A) (files : Texts) (are : map v xs ≡ files) (i : ℕ) (a : A) (within : i < length xs) (is : a ≡ get_or xs i a) where
   pub item_within : i < length files
   item_within = subst (λ n. i < n) (sym (length-map xs v) ∙ ap length are) within
@@ -252,7 +253,7 @@ pub done : {T E P : Type 0} (r : Result T E) → is_ok r ≡ true → OnOk r P �
 done (Ok x) is p = p
 done (Err e) is p = absurd (cc)
 
--- where nothing is refused
+-- if nothing is refused
 pub not_refused : {T : Type 0} (r : Result T Refusal) (first : Option Refusal) → AnswersRefusal r first → first ≡ None → IfErr r (λ e. e ≡ NoMemory)
 not_refused (Ok x) first answer none = tt
 not_refused (Err e) first answer none = cc

@@ -1,11 +1,11 @@
--- A library of whose files some change.
+-- A library some of whose files change.
 use Rattle.std.proofs.Common.{◌≡◌, ◌≤◌, ℕ, List, length, sym, ap, subst, ◌∙◌}
 use Rattle.al_base.specs.FileLaws.{Ascend}
 use Rattle.al_base.specs.Files.{Texts, without_file}
 use Rattle.al_session_served.specs.Library.{State}
 use Rattle.al_folder_served.proofs.Brought.{deleted_to, deleted_all, Ascend-still_there}
 
--- its files alone
+-- only its files change
 abbrev pub IsButFiles : State → State → Type 0
 IsButFiles start library = library ≡ record start { now = library.now }
 

@@ -1,4 +1,4 @@
--- Files that have the same text under each name are the same.
+-- Files that have the same source under each name are the same.
 use Rattle.std.proofs.Common.{◌≡◌, ℕ, true, List, [], ◌∷◌, Some, None, ⊎_elim, refl, sym, ap, ◌∙◌}
 use Rattle.std.specs.Cmp.{tied_itself, eq_by_cmp_equiv}
 use Rattle.std.specs.Cmp.Lexicographic.{nat_list_cmp_total}
@@ -16,7 +16,7 @@ use Rattle.std.proofs.lemmas.Slice.Eq.{bytes_eq-Decides}
 use Rattle.al_base.specs.FileLaws.{Ascend}
 use Rattle.al_base.specs.Files.{Texts, name_cmp, text_of}
 
--- names that tie are one
+-- names that compare as equal are equal
 pub tied : (p q : List ℕ) → is_eq (name_cmp p q) ≡ true → p ≡ q
 tied p q same = (bytes_eq-Decides p q).0 (sym (is_eq-slice_cmp p q) ∙ same)
 
@@ -29,7 +29,7 @@ once q e es sorted same = lookup-none (is_at (name_cmp q)) es (none_past_head (e
 below_all : (q : List ℕ) (e : List ℕ × List ℕ) (es : Texts) → Ascend (e ∷ es) → name_cmp q e.0 ≡ Less → text_of (e ∷ es) q ≡ None
 below_all q e es sorted below = lookup-none (is_at (name_cmp q)) (e ∷ es) (none_below_head nat_list_cmp_total q e es sorted below)
 
--- two lists of files with the same text under each name, and their first files
+-- two lists of files with the same source under each name, and their first files
 module _ (e f : List ℕ × List ℕ) (es fs : Texts) (sorted : Ascend (e ∷ es)) (also : Ascend (f ∷ fs)) (alike : (q : List ℕ) → text_of (e ∷ es) q ≡ text_of (f ∷ fs) q) where
   by_first : (o : Ordering) → name_cmp e.0 f.0 ≡ o → is_eq (name_cmp e.0 f.0) ≡ true
   by_first Less is = let there : Some e.1 ≡ None = sym (text_of_first e es) ∙ alike e.0 ∙ below_all e.0 f fs also is in cc

@@ -9,7 +9,7 @@ appends_nothing None = tt
 appends_nothing (Some xs) = sym (append-nil xs)
 
 module _ {W : Type 0} (written : W → Option (List ℕ)) (faults : W → ℕ) (waits : W → Bool) where
-  -- an output that could be passed on has no fault more
+  -- an output that could be passed on has no more errors than before
   pub finishes_well : (old new : W) (r : Result (Unit {0}) Device) → Adds written faults waits old new (Ok tt) r [] → IsOk r → faults new ≡ faults old
   finishes_well old new (Ok x) adds ok = (adds (sink_moment written faults waits old) [] (appends_nothing (written old), refl, λ none off. off)).1
   finishes_well old new (Err e) adds ok = cc

@@ -1,4 +1,4 @@
-// Handing a library what was read.
+// The files of a library are replaced by those that were read.
 ghost use Rattle.std.specs.Prelude.{◌≡◌, ◌↔◌, Some, IfErr, IsOk, IsTrue, OnOk};
 ghost use Rattle.al_base.specs.FileLaws.{Ascend};
 ghost use Rattle.al_base.specs.Files.{text_of};
@@ -11,8 +11,8 @@ use crate::library::FolderLibrary;
 use al_base::{Files, Refusal};
 use std::alloc::Global;
 
-/// Brings a library with these files to those: what is gone is deleted, and what is new or has another text is put. Its files are those
-/// then, each with its text, and no other; all else is as before.
+/// Replaces the files of a library, which are `before`, by `now`: it deletes those that are gone, and puts those that are new or have another source.
+/// The library then has the files of `now`, each with its source, and no others; everything else is unchanged.
 ///
 /// # Errors
 ///
@@ -31,7 +31,7 @@ pub fn bring<L: FolderLibrary>(
     put_changed(alloc, library, before, now)
 }
 
-// Deletes what is gone.
+// Deletes the files that are gone.
 fn delete_gone<L: FolderLibrary>(
     library: &mut L,
     before: &Files,
@@ -51,7 +51,7 @@ fn delete_gone<L: FolderLibrary>(
     Ok(())
 }
 
-// Puts what is new or has another text.
+// Puts the files that are new or have another source.
 fn put_changed<L: FolderLibrary>(
     alloc: Global,
     library: &mut L,
@@ -72,7 +72,7 @@ fn put_changed<L: FolderLibrary>(
     Ok(())
 }
 
-// Whether a file has this text.
+// Whether a file has this source.
 fn has_text(files: &Files, name: &[u8], text: &[u8]) -> bool
     ensures { IsTrue result ↔ text_of files.now name.now ≡ Some text.now }
 {
@@ -82,7 +82,7 @@ fn has_text(files: &Files, name: &[u8], text: &[u8]) -> bool
     }
 }
 
-// A library takes what these files take, so that it can only run out of memory.
+// The answer of a library that takes these files, so that it can only run out of memory.
 fn taken(answer: Result<(), Refusal>) -> Result<(), Failure>
     requires { IfErr answer (λ e. e ≡ Refusal.NoMemory) }
     ensures ok { OnOk result (IsOk answer) }

@@ -1,4 +1,4 @@
-// One build, and what is done with the program.
+// One build, and the uses of its program.
 ghost use Rattle.std.specs.Prelude.{◌≡◌, Bool, false, true, None, IfOk, OnOk, IsSome};
 ghost use Rattle.al_session_stream.specs.Output.{Adds};
 ghost use Rattle.al_session_served.specs.Library.{empty};
@@ -26,7 +26,7 @@ use al_folder::Ending;
 use al_session_stream::Sink;
 use std::alloc::Global;
 
-/// What is done with a program that was built.
+/// The uses of a program that was built.
 #[derive(Clone, Copy)]
 pub struct Uses {
     pub order: bool,
@@ -34,8 +34,12 @@ pub struct Uses {
     pub pace: Pace,
 }
 
-/// Builds a main unit of the folders once with an empty library, and does what is asked for, or prints its files: the build is of the
-/// sources that were read, if all of them could be read.
+/// Builds a main unit of the folders once, with an empty library, and does what is asked for; or prints its files. It builds if all sources could be
+/// read.
+///
+/// # Errors
+///
+/// A [`Failure`] if an output can't be written or memory runs out.
 pub fn build_once<L: FolderLibrary, D: Disk, O: Sink, E: Sink, N: Run>(
     alloc: Global,
     disk: &mut D,
@@ -69,6 +73,10 @@ pub fn build_once<L: FolderLibrary, D: Disk, O: Sink, E: Sink, N: Run>(
 }
 
 /// Builds a main unit of the sources that the library holds.
+///
+/// # Errors
+///
+/// `Memory` if memory runs out.
 pub fn build<L: FolderLibrary>(
     library: &mut L,
     sources: &Sources,
@@ -82,7 +90,7 @@ pub fn build<L: FolderLibrary>(
     Ok(())
 }
 
-/// Of two endings the one that isn't `Done`; the first if neither is.
+/// The first ending unless it is `Done`, and else the second.
 pub fn worse_of(first: Ending, second: Ending) -> Ending
     ensures { result ≡ worse_of first second }
 {
@@ -92,7 +100,11 @@ pub fn worse_of(first: Ending, second: Ending) -> Ending
     }
 }
 
-/// Reports what the last build gave, which is of these sources, and uses the program; if it gave none, the ending is `NotBuilt`.
+/// Reports the result of the last build, which is of these sources, and uses the program. If there is none, the ending is `NotBuilt`.
+///
+/// # Errors
+///
+/// A [`Failure`] if an output can't be written or memory runs out.
 pub fn finish_build<L: FolderLibrary, D: Disk, O: Sink, E: Sink, N: Run>(
     alloc: Global,
     disk: &mut D,
@@ -121,7 +133,7 @@ pub fn finish_build<L: FolderLibrary, D: Disk, O: Sink, E: Sink, N: Run>(
     }
 }
 
-// Prints the order, writes the image of these bytes and runs the program, as is asked for.
+// Prints the order, writes the image of these bytes and runs the program, each if it is asked for.
 fn use_program<L: FolderLibrary, D: Disk, O: Sink, E: Sink, N: Run>(
     alloc: Global,
     disk: &mut D,
@@ -146,7 +158,7 @@ fn use_program<L: FolderLibrary, D: Disk, O: Sink, E: Sink, N: Run>(
     Ok(worse_of(saved, ran))
 }
 
-// Prints the order of elaboration that the last build gave.
+// Prints the order of elaboration of the last build.
 fn print_order<L: FolderLibrary, O: Sink, E: Sink>(
     screen: &mut Screen<O, E>,
     library: &L,
@@ -180,7 +192,7 @@ fn save_program<D: Disk, O: Sink, E: Sink>(
     }
 }
 
-// Shows the program of the last build, which is of these texts; whether it is run if that is asked for.
+// Shows the program of the last build, which is of these sources. Gives whether it is to be run if that is asked for.
 fn show_program<L: FolderLibrary, O: Sink, E: Sink, N: Run>(
     screen: &mut Screen<O, E>,
     run: &mut N,

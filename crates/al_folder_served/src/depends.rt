@@ -1,4 +1,4 @@
-// Which files a program is made from, and on which others each depends.
+// The files that a program is made from, and on which others each depends.
 use crate::failure::Failure;
 use crate::files_needed::{add_needed, body_file};
 use crate::paths::path_of;
@@ -10,10 +10,14 @@ use al_session_stream::Sink;
 use std::alloc::Global;
 use std::collections::{BTreeMap, BTreeSet};
 
-/// The files of a program by name, each with those among them that hold the units which it names.
+/// The files of a program by name, each with the files of the units that it names.
 type Graph = BTreeMap<String, BTreeSet<String>>;
 
-/// Prints from which files the program of a main unit is made, in this form.
+/// Prints the files that the program of a main unit is made from, in this form.
+///
+/// # Errors
+///
+/// A [`Failure`] if the output can't be written or memory runs out.
 pub fn print_depends<O: Sink, E: Sink>(
     alloc: Global,
     screen: &mut Screen<O, E>,
@@ -54,7 +58,7 @@ fn graph_of(alloc: Global, unit: &Name, sources: &Sources) -> Result<Graph, Fail
     Ok(graph)
 }
 
-// The other files, among those that were read, of the units which a source names.
+// The files of the units that a source names, among those that were read.
 fn needed_by(
     alloc: Global,
     name: &str,
@@ -72,7 +76,7 @@ fn needed_by(
     Ok(needed)
 }
 
-// A rule of make: the program, and the paths of all its files.
+// A rule for make: the program, and the paths of all its files.
 fn make_text(
     alloc: Global,
     unit: &str,
@@ -94,7 +98,7 @@ fn make_text(
     Ok(text)
 }
 
-// make takes a blank or a sharp after a backslash as it is, and two dollars for one.
+// Adds a path as make reads it: a backslash before a blank or a sharp, and two dollars for one.
 fn add_escaped(text: &mut String, path: &str) -> Result<(), Failure> {
     for c in path.chars() {
         if c == ' ' || c == '#' {
@@ -108,7 +112,7 @@ fn add_escaped(text: &mut String, path: &str) -> Result<(), Failure> {
     Ok(())
 }
 
-// A graph for Graphviz.
+// The graph in the language of Graphviz.
 fn dot_text(alloc: Global, unit: &str, graph: &Graph) -> Result<String, Failure> {
     let mut text = format!(in alloc; "digraph \"{unit}\" {{\n")?;
     for (name, needed) in graph.iter() {
@@ -126,7 +130,7 @@ fn dot_text(alloc: Global, unit: &str, graph: &Graph) -> Result<String, Failure>
     Ok(text)
 }
 
-// A line for each file, followed by those that it names.
+// A line for each file, followed by the files that it names.
 fn plain_text(alloc: Global, graph: &Graph) -> Result<String, Failure> {
     let mut text = String::new(alloc);
     for (name, needed) in graph.iter() {

@@ -1,4 +1,4 @@
-// What is read and written of folders and files.
+// What is read from folders and files, and written to them.
 use std::alloc::Global;
 use std::io;
 
@@ -11,33 +11,33 @@ pub enum PathKind {
     Other,
 }
 
-/// How many bytes a file has, and when it was changed last, in nanoseconds since 1970.
+/// The number of bytes of a file, and when it was last changed, in nanoseconds since 1970.
 #[derive(Clone, Copy, Debug, PartialEq, Eq)]
 pub struct Stamp {
     pub size: u64,
     pub changed: u64,
 }
 
-/// What is at a path, after all links, and of a file its stamp, if the disk has one.
+/// What is at a path after all links; and the stamp, if it is a file and the disk has one.
 #[derive(Clone, Copy, Debug, PartialEq, Eq)]
 pub struct Status {
     pub kind: PathKind,
     pub stamp: Option<Stamp>,
 }
 
-/// What is in a folder.
+/// The names in a folder.
 #[derive(Drop)]
 pub struct Listing {
-    /// The names that end as those of sources do, in their order.
+    /// The names that end as those of sources do, in order.
     pub names: Vec<String>,
     /// The names of the folders in it, without links.
     pub others: Vec<String>,
-    /// How many names aren't UTF-8.
+    /// The number of names that aren't UTF-8.
     pub unnamed: u64,
 }
 
 impl Listing {
-    /// The names of sources, and how many names aren't UTF-8.
+    /// The names of sources, and the number of names that aren't UTF-8.
     pub fn into_names(self) -> (Vec<String>, u64) {
         let Listing {
             names,
@@ -48,23 +48,47 @@ impl Listing {
     }
 }
 
-/// A disk, and the clock of its machine.
+/// A disk, and the clock of its machine. Each function gives the machine's error if it fails.
 pub trait Disk {
-    /// What is in the folder; the folders in it only if `others`.
+    /// The names in a folder; those of folders only if `others`.
+    ///
+    /// # Errors
+    ///
+    /// The machine's error.
     fn list(&self, alloc: Global, folder: &str, others: bool) -> io::Result<Listing>;
 
-    /// What is at the path. Nothing is opened.
+    /// What is at a path. No file is opened.
+    ///
+    /// # Errors
+    ///
+    /// The machine's error.
     fn status(&self, path: &str) -> io::Result<Status>;
 
-    /// The first bytes of a file, at most so many.
+    /// The first bytes of a file, at most `most`.
+    ///
+    /// # Errors
+    ///
+    /// The machine's error.
     fn read(&self, alloc: Global, path: &str, most: u64) -> io::Result<Vec<u8>>;
 
-    /// Makes the bytes the contents of a file.
+    /// Makes these bytes the contents of a file.
+    ///
+    /// # Errors
+    ///
+    /// The machine's error.
     fn write(&mut self, path: &str, bytes: &[u8]) -> io::Result<()>;
 
-    /// The moment, in nanoseconds since 1970.
+    /// The present moment, in nanoseconds since 1970.
+    ///
+    /// # Errors
+    ///
+    /// The machine's error.
     fn now(&self) -> io::Result<u64>;
 
-    /// Milliseconds that passed since some moment.
+    /// The milliseconds that passed since some moment.
+    ///
+    /// # Errors
+    ///
+    /// The machine's error.
     fn millis(&self) -> io::Result<u64>;
 }

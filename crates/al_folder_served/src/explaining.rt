@@ -1,4 +1,4 @@
-// What builds and runs print: diagnostics with notes, or objects for tools.
+// What builds and runs print: diagnostics with notes, or objects for other programs.
 ghost use Rattle.std.specs.Prelude.{◌≡◌, true, OnOk};
 ghost use Rattle.al_session_stream.specs.Output.{Adds};
 ghost use Rattle.al_folder_served.specs.Sources.{Holds, IsBuiltFrom, gave_last};
@@ -23,8 +23,12 @@ use al_session_served::Outcome;
 use al_session_stream::Sink;
 use std::alloc::Global;
 
-/// Prints why the last build gave no program, if it gave none. Of diagnostics it prints the notes too, and units that weren't checked at
-/// the end, unless plain ones are asked for; or objects for tools.
+/// Prints why the last build gave no program, if it gave none: diagnostics with notes, and at the end the units that weren't checked; plain
+/// diagnostics if they are asked for; or objects for other programs.
+///
+/// # Errors
+///
+/// A [`Failure`] if an output can't be written or memory runs out.
 pub fn report_build<L: FolderLibrary, O: Sink, E: Sink>(
     alloc: Global,
     screen: &mut Screen<O, E>,
@@ -138,7 +142,11 @@ fn report_document<O: Sink, E: Sink>(
     screen.tell_line(&[text.as_bytes()])
 }
 
-/// Prints what a build did, if people or tools want to know it line by line.
+/// Prints what a build did, if the form is for people or one object a line.
+///
+/// # Errors
+///
+/// A [`Failure`] if an output can't be written or memory runs out.
 pub fn report_progress<O: Sink, E: Sink>(
     alloc: Global,
     screen: &mut Screen<O, E>,
@@ -153,7 +161,7 @@ pub fn report_progress<O: Sink, E: Sink>(
     }
 }
 
-// Prints what a build did, as an object of JSON.
+// Prints what a build did, as a JSON object.
 fn report_built<O: Sink, E: Sink>(
     alloc: Global,
     screen: &mut Screen<O, E>,
@@ -172,7 +180,11 @@ fn report_built<O: Sink, E: Sink>(
     screen.tell_line(&[line.as_bytes()])
 }
 
-/// Prints how a run ended, whose files are in these folders.
+/// Prints how a run ended. The files of its units are in these folders.
+///
+/// # Errors
+///
+/// A [`Failure`] if an output can't be written or memory runs out.
 pub fn report_end<O: Sink, E: Sink>(
     alloc: Global,
     screen: &mut Screen<O, E>,
@@ -188,7 +200,11 @@ pub fn report_end<O: Sink, E: Sink>(
     screen.tell_line(&[line.as_bytes()])
 }
 
-/// Builds a main unit of the sources that the library holds, and prints what that did if objects of JSON are asked for.
+/// Builds a main unit of the sources that the library holds, and prints what the build did if JSON objects are asked for.
+///
+/// # Errors
+///
+/// A [`Failure`] if an output can't be written, the clock can't be read or memory runs out.
 pub fn build_one<L: FolderLibrary, D: Disk, O: Sink, E: Sink>(
     alloc: Global,
     disk: &D,

@@ -5,6 +5,10 @@ use al_base::{FileKey, UnitKind};
 use std::alloc::Global;
 
 /// Adds the files of the units that a source names, and of these units' ancestors.
+///
+/// # Errors
+///
+/// `Memory` if memory runs out.
 pub fn add_needed(alloc: Global, text: &[u8], files: &mut Vec<String>) -> Result<(), Failure> {
     for name in units_named(alloc, text)? {
         let bytes = name.as_slice();
@@ -19,6 +23,10 @@ pub fn add_needed(alloc: Global, text: &[u8], files: &mut Vec<String>) -> Result
 }
 
 /// Adds the files of a unit.
+///
+/// # Errors
+///
+/// `Memory` if memory runs out.
 pub fn add_files(alloc: Global, unit: &[u8], files: &mut Vec<String>) -> Result<(), Failure> {
     add_file(alloc, unit, UnitKind::Body, files)?;
     add_file(alloc, unit, UnitKind::Decl, files)
@@ -36,7 +44,11 @@ fn add_file(
     Ok(())
 }
 
-/// The name of the file of a unit's body; the unit's own if that would be longer than any file's.
+/// The name of the file of a unit's body; the unit's own name if that would be too long for a file.
+///
+/// # Errors
+///
+/// `Memory` if memory runs out.
 pub fn body_file(alloc: Global, unit: &[u8]) -> Result<String, Failure> {
     match FileKey::of(unit, UnitKind::Body) {
         Some(file) => Ok(String::from_utf8_lossy(alloc, file.as_slice())?),

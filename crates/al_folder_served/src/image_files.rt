@@ -11,13 +11,17 @@ use al_session_stream::Sink;
 use std::alloc::Global;
 use std::io;
 
-// The most bytes that are read of an image: the code and its lines are far below.
+// The largest number of bytes that are read of an image. Code and lines are far below it.
 const MAX_IMAGE: u64 = 268_435_456;
 
 // The bytes that each image begins with.
 const MARK: &[u8] = b"ADLI";
 
-/// Runs the image of a file.
+/// Runs the image in a file.
+///
+/// # Errors
+///
+/// A [`Failure`] if an output can't be written or memory runs out.
 pub fn load<D: Disk, O: Sink, E: Sink, N: Run>(
     alloc: Global,
     disk: &D,
@@ -62,7 +66,11 @@ fn run_bytes<O: Sink, E: Sink, N: Run>(
     }
 }
 
-/// Writes the image's bytes to a file, unless something else is there. Returns whether that was done; if not, the cause was printed.
+/// Writes the image's bytes to a file, unless something else is there. Gives whether it was written; if not, the cause was printed.
+///
+/// # Errors
+///
+/// A [`Failure`] if an output can't be written or memory runs out.
 pub fn save<D: Disk, O: Sink, E: Sink>(
     alloc: Global,
     disk: &mut D,
@@ -86,7 +94,7 @@ pub fn save<D: Disk, O: Sink, E: Sink>(
     }
 }
 
-// Why no image is written there.
+// Why no image is written to this file; `None` if one is.
 fn refusal_of<D: Disk>(
     alloc: Global,
     disk: &D,
@@ -108,7 +116,7 @@ fn refusal_of<D: Disk>(
     }
 }
 
-// Reports why no image is written there.
+// Prints why no image is written to this file.
 fn tell_refused<O: Sink, E: Sink>(
     screen: &mut Screen<O, E>,
     file: &str,
@@ -117,7 +125,7 @@ fn tell_refused<O: Sink, E: Sink>(
     screen.tell_line(&[b"error: ", file.as_bytes(), why])
 }
 
-// Reports that something can't be done with a file.
+// Prints that something can't be done with a file.
 fn tell_fault<O: Sink, E: Sink>(
     alloc: Global,
     screen: &mut Screen<O, E>,

@@ -1,12 +1,16 @@
-//! Folders of sources that are read, built and run, over any library that keeps the contract of [`FolderLibrary`], any [`Disk`] and any two
-//! outputs.
+//! Folders of sources that are read, built and run, over any library that keeps the contract of [`FolderLibrary`], any [`Disk`] and any two outputs.
 //!
-//! - [`Screen`] has the two outputs: messages go to one, what programs put out to the other.
-//! - [`read_sources`] reads what the main units need of some folders, or all of them, into [`Sources`].
-//! - [`build_once`] builds, reports what that gave and uses the program, [`watch`] does so again and again, and [`load`] runs an image of a file.
+//! - A [`Request`] is what the command line asks for (`request`); `projects` adds what a project file says.
+//! - [`Screen`] has the two outputs: messages go to one, the output of programs to the other (`screen`, `voice`). `failure` says why the program
+//!   can't go on.
+//! - [`read_sources`] reads the files that a main unit needs, or all files of the folders, into [`Sources`]: `listing` and `index` list folders,
+//!   `mains`, `needed` and `files_needed` find files, `reading` reads them, and `unchanged` sees that nothing changed.
+//! - [`build_once`] builds, reports the result and uses the program. [`watch`] does so again and again (`watching`, `bringing`), and [`load`] runs an
+//!   image of a file. `depends` prints the files of a program.
+//! - `explaining` and `telling` print diagnostics and results, `running` runs a program in parts.
 //!
-//! What other libraries add has its places: after each diagnostic in `telling`, between the parts of a run and after it in `running`, and
-//! for each word of a watch in `watching`.
+//! Other libraries can add to this: after each diagnostic in `telling`, between the parts of a run and after it in `running`, and for each command of
+//! a watch in `watching`.
 #![tactic(auto)]
 
 mod bringing;

@@ -3,14 +3,14 @@ use al_base::UnitKey;
 use al_link_image::Image;
 use al_session_served::UnitLibrary;
 
-/// A library of compilation units that answers more than the replies of a session need.
+/// A library of compilation units that has more than the replies of a session need.
 pub trait FolderLibrary: UnitLibrary {
     /// The units that the last build checked, by name and kind.
     fn last_checked(&self) -> &[UnitKey];
 
-    /// Into the code of how many units, in the image before it, the last build wrote.
+    /// The number of units whose code the last build wrote into the image of the build before.
     fn patched(&self) -> usize;
 
-    /// The image that the last build gave.
+    /// The image of the last build, if it gave one.
     fn image(&self) -> Option<&Image>;
 }

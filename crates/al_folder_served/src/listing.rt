@@ -1,4 +1,4 @@
-// Which sources are in the folders.
+// The sources in the folders.
 use crate::disk::{Disk, Listing};
 use crate::failure::Failure;
 use crate::index::{Index, Told};
@@ -10,10 +10,14 @@ use al_base::is_file_name;
 use al_session_stream::Sink;
 use std::alloc::Global;
 
-// How many names of a folder are printed at most that no source can have.
+// The largest number of names of a folder that are reported because no source can have them.
 const MOST_TOLD: u32 = 10;
 
-/// Lists the folders. Prints which can't be read, and once each name that ends as a source's and can't be one.
+/// Lists the folders. Reports folders that can't be read, and once each name that ends as a source's does and can't be one.
+///
+/// # Errors
+///
+/// A [`Failure`] if an output can't be written or memory runs out.
 pub fn list_folders<D: Disk, O: Sink, E: Sink>(
     alloc: Global,
     disk: &D,
@@ -78,12 +82,12 @@ fn add_names<O: Sink, E: Sink>(
     Ok(())
 }
 
-// Editors give names that begin with a dot to what isn't saved yet.
+// Whether a name isn't that of a draft: editors begin the names of unsaved files with a dot.
 fn is_no_draft(name: &[u8]) -> bool {
     name.first() != Some(&b'.')
 }
 
-// Reports that a file is left out for its name.
+// Reports that a file is left out because of its name.
 fn tell_left_out<O: Sink, E: Sink>(screen: &mut Screen<O, E>, path: &str) -> Result<(), Failure> {
     screen.tell_line(&[
         b"warning: ",
@@ -92,7 +96,7 @@ fn tell_left_out<O: Sink, E: Sink>(screen: &mut Screen<O, E>, path: &str) -> Res
     ])
 }
 
-// Reports that so many more are left out.
+// Reports how many more files are left out.
 fn tell_more<O: Sink, E: Sink>(
     alloc: Global,
     screen: &mut Screen<O, E>,

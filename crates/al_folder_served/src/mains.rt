@@ -8,10 +8,14 @@ use al_base::Name;
 use al_session_stream::Sink;
 use std::alloc::Global;
 
-// How many names are printed at most that are near one.
+// The largest number of similar names that are printed.
 const MOST_NEAR: usize = 3;
 
-/// Adds the names of the main unit's files. Returns whether that of its body is there; if not, that is printed, with names near it.
+/// Adds the names of the main unit's files. Gives whether that of its body is there; if not, that is printed, with similar names.
+///
+/// # Errors
+///
+/// A [`Failure`] if an output can't be written or memory runs out.
 pub fn find_main<O: Sink, E: Sink>(
     alloc: Global,
     screen: &mut Screen<O, E>,
@@ -29,7 +33,7 @@ pub fn find_main<O: Sink, E: Sink>(
     Ok(false)
 }
 
-// Reports that no folder has the file of a main unit's body, and which names are near it.
+// Reports that no folder has the file of a main unit's body, and which names are similar.
 fn tell_no_main<O: Sink, E: Sink>(
     alloc: Global,
     screen: &mut Screen<O, E>,
@@ -71,7 +75,7 @@ fn are_near(one: &[u8], other: &[u8]) -> bool {
     front.saturating_add(back).saturating_add(2) >= most
 }
 
-// How many first bytes are the same.
+// How many bytes at the beginning are the same.
 fn common_front(one: &[u8], other: &[u8]) -> usize {
     let mut count = 0usize;
     for (a, b) in one.iter().zip(other.iter()) {
@@ -83,7 +87,7 @@ fn common_front(one: &[u8], other: &[u8]) -> usize {
     count
 }
 
-// How many last bytes are the same.
+// How many bytes at the end are the same.
 fn common_back(one: &[u8], other: &[u8]) -> usize {
     let mut count = 0usize;
     for (a, b) in one.iter().rev().zip(other.iter().rev()) {

@@ -38,11 +38,11 @@ struct Scan {
     found: Vec<Name>,
 }
 
-/// The units that a source names, in lower case; none if it has a lexical fault.
+/// The units that a source names, in lower case; none if it has a lexical error.
 ///
 /// # Errors
 ///
-/// `NoMemory` if memory runs out.
+/// `NoMemory` if the allocator refuses memory.
 pub fn units_named(alloc: Global, text: &[u8]) -> Result<Vec<Name>, NoMemory> {
     let mut scan = Scan::new(alloc);
     if text.len() > 4294967294 {
@@ -72,7 +72,7 @@ impl Scan {
         }
     }
 
-    // One more lexeme.
+    // Reads one more lexeme.
     fn take(&mut self, token: Token, text: &[u8]) -> Result<(), NoMemory> {
         match token.kind {
             Kind::Reserved(word) => self.take_word(word),
@@ -92,7 +92,7 @@ impl Scan {
         }
     }
 
-    // The first word of a clause or of the unit.
+    // Reads the first word of a clause or of the unit.
     fn begin(&mut self, word: ReservedWord) -> Result<(), NoMemory> {
         self.name.clear();
         self.part = match word {
@@ -106,7 +106,7 @@ impl Scan {
         Ok(())
     }
 
-    // A word before the unit's name or after it.
+    // Reads a word before the unit's name or after it.
     fn take_own_word(&mut self, word: ReservedWord) -> Result<(), NoMemory> {
         if self.name.is_empty() {
             return Ok(());
@@ -161,7 +161,7 @@ impl Scan {
         Ok(())
     }
 
-    // The name that was read is a unit's.
+    // Adds the name that was read, which is a unit's.
     fn add_name(&mut self) -> Result<(), NoMemory> {
         let name = folded(self.alloc, &self.name)?;
         self.name.clear();
@@ -169,7 +169,7 @@ impl Scan {
         Ok(())
     }
 
-    // The name that was read is the parent body's.
+    // Adds the name that was read, which is the parent body's.
     fn add_parent(&mut self) -> Result<(), NoMemory> {
         self.own.clear();
         self.own.extend_from_slice(&self.name)?;
@@ -177,7 +177,7 @@ impl Scan {
         self.add_name()
     }
 
-    // The name that was read is the unit's own.
+    // Adds the name that was read, which is the unit's own.
     fn end_own(&mut self) -> Result<(), NoMemory> {
         self.own.extend_from_slice(&self.name)?;
         self.name.clear();
@@ -187,7 +187,7 @@ impl Scan {
         Ok(())
     }
 
-    // The last inner name is that of a stub.
+    // Adds the last inner name, which is that of a stub.
     fn add_stub(&mut self) -> Result<(), NoMemory> {
         let mut stub = Vec::from_slice(self.alloc, &self.own)?;
         stub.push(b'.')?;

@@ -1,7 +1,11 @@
 // Paths of files in folders.
 use std::alloc::{AllocError, Global};
 
-/// The folder that the word names, without doubled separators, separators at its end and steps `.`.
+/// The folder that a word names, without doubled separators, separators at its end and steps `.`.
+///
+/// # Errors
+///
+/// `AllocError` if memory runs out.
 pub fn folder_path(alloc: Global, word: &str) -> Result<String, AllocError> {
     let mut path = String::new(alloc);
     if word.starts_with('/') {
@@ -25,7 +29,11 @@ fn add_step(path: &mut String, step: &str) -> Result<(), AllocError> {
     path.push_str(step)
 }
 
-/// The path of a name in a folder; in the present one the name alone.
+/// The path of a name in a folder; only the name if that is the current folder.
+///
+/// # Errors
+///
+/// `AllocError` if memory runs out.
 pub fn path_of(alloc: Global, folder: &str, name: &str) -> Result<String, AllocError> {
     let mut path = String::new(alloc);
     if folder != "." {

@@ -1,4 +1,4 @@
-// What a project file adds to what is asked for.
+// What a project file adds to a request.
 use crate::disk::Disk;
 use crate::failure::Failure;
 use crate::paths::{folder_path, path_of};
@@ -10,13 +10,17 @@ use al_project::{Project, ProjectError, read_project};
 use al_session_stream::Sink;
 use std::alloc::Global;
 
-// The most bytes that are read of a project file.
+// The largest number of bytes that are read of a project file.
 const MOST: u64 = 1_048_577;
 
-// How many folders a project has at most.
+// The largest number of folders of a project.
 const MOST_FOLDERS: usize = 4096;
 
-/// Adds the folders, the mains and what is excluded of a project file. Returns whether it could be read; if not, the cause was printed.
+/// Adds the folders, the main units and the excluded files of a project file. Gives whether it could be used; if not, the cause was printed.
+///
+/// # Errors
+///
+/// A [`Failure`] if an output can't be written or memory runs out.
 pub fn take_project<D: Disk, O: Sink, E: Sink>(
     alloc: Global,
     disk: &D,
@@ -94,7 +98,7 @@ fn folder_of(file: &str) -> &str {
     }
 }
 
-// Adds the mains of a project. Returns whether there is one, and each is a unit's name; if not, that was printed.
+// Adds the main units of a project. Gives whether there is one and each is a unit's name; if not, that was printed.
 fn add_mains<O: Sink, E: Sink>(
     alloc: Global,
     screen: &mut Screen<O, E>,
@@ -221,7 +225,7 @@ fn tell_passed_over<O: Sink, E: Sink>(
     screen.tell_line(&[file.as_bytes(), at.as_bytes(), name, b" is ignored"])
 }
 
-// The line with a caret under the place.
+// Prints the line with a caret under the place.
 fn show_line<O: Sink, E: Sink>(
     screen: &mut Screen<O, E>,
     place: Place,

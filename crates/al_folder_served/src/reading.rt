@@ -1,4 +1,4 @@
-// Reading what is needed of folders.
+// The files of folders that are needed are read.
 ghost use Rattle.std.specs.Prelude.{◌≡◌, false, length, IsSome, IsTrue, OnOk};
 ghost use Rattle.al_base.specs.Files.{put_refusal, with_file};
 
@@ -17,25 +17,28 @@ use std::alloc::Global;
 use std::collections::BTreeSet;
 use std::io;
 
-// How old a file is at least, in nanoseconds, that isn't read again if its size and its time are as they were: no clock of a disk has
-// longer ticks.
+// The age, in nanoseconds, above which a file isn't read again if its size and time are as before. No clock of a disk has longer ticks.
 const OLD: u64 = 2_000_000_000;
 
-/// What sources are read from.
+/// The folders that sources are read from, and what is known of them.
 #[derive(Drop)]
 pub struct Shelf<'a, D: Disk> {
     pub alloc: Global,
     pub disk: &'a D,
     pub request: &'a Request<'a>,
-    /// What was read before.
+    /// The sources that were read before.
     pub before: &'a Sources,
-    /// When reading began, in nanoseconds since 1970.
+    /// The moment at which reading began, in nanoseconds since 1970.
     pub moment: u64,
 }
 
-/// Reads the sources that the main unit needs: those that a with clause, a stub, a child or a body names, by the names that GNAT gives their
-/// files; or all of them if that is asked for. Prints what keeps them from being read, and once each name that no source can have.
-/// What is as it was on the disk is taken from what was read before.
+/// Reads the sources that the main unit needs: those that a with clause, a stub, a child or a body names, under the names that GNAT gives their
+/// files; or all sources if that is asked for. Prints why sources can't be read, and once each name that no source can have. A file that is unchanged
+/// on the disk is taken from `before`.
+///
+/// # Errors
+///
+/// A [`Failure`] if an output can't be written, the clock can't be read or memory runs out.
 pub fn read_sources<D: Disk, O: Sink, E: Sink>(
     alloc: Global,
     disk: &D,
@@ -96,7 +99,7 @@ fn read_queue<D: Disk, O: Sink, E: Sink>(
     Ok(sources)
 }
 
-// Reads the file of the name, if there is one.
+// Reads the file of this name, if there is one.
 fn read_listed<D: Disk, O: Sink, E: Sink>(
     shelf: &Shelf<'_, D>,
     screen: &mut Screen<O, E>,
@@ -133,7 +136,7 @@ fn tell_twice<O: Sink, E: Sink>(
     ])
 }
 
-// Reads a file of a folder, unless it is as it was.
+// Reads a file of a folder, unless it is unchanged.
 fn read_source<D: Disk, O: Sink, E: Sink>(
     shelf: &Shelf<'_, D>,
     screen: &mut Screen<O, E>,
@@ -161,7 +164,7 @@ fn read_source<D: Disk, O: Sink, E: Sink>(
     }
 }
 
-// The text of a file, one byte more than a library takes at most; as it was read before, if it is as it was on the disk.
+// The bytes of a file, at most one more than a library takes; those that were read before if the file is unchanged on the disk.
 fn text_of<D: Disk>(
     shelf: &Shelf<'_, D>,
     path: &str,
@@ -174,7 +177,7 @@ fn text_of<D: Disk>(
     shelf.disk.read(shelf.alloc, path, MAX_TEXT as u64 + 1)
 }
 
-// The text that was read before, if the stamp is as it was, and was old then.
+// The source that was read before, if the stamp is the same, and the file was old then.
 fn text_before<'a>(before: &'a Sources, name: &str, stamp: Option<Stamp>) -> Option<&'a [u8]> {
     let seen = before.seen.get(name)?;
     if seen.is_old && stamp == Some(seen.stamp) {
@@ -184,7 +187,7 @@ fn text_before<'a>(before: &'a Sources, name: &str, stamp: Option<Stamp>) -> Opt
     }
 }
 
-// Keeps what the disk says of a file.
+// Keeps the stamp of a file.
 fn see<D: Disk>(
     shelf: &Shelf<'_, D>,
     name: &str,
@@ -200,7 +203,7 @@ fn see<D: Disk>(
     Ok(())
 }
 
-// Adds a source. If a library doesn't take it, that is printed and the file left out, and the sources aren't whole.
+// Adds a source. If a library can't take it, that is printed, the file is left out, and the sources aren't whole.
 fn add_source<O: Sink, E: Sink>(
     screen: &mut Screen<O, E>,
     path: &str,
@@ -221,7 +224,7 @@ fn add_source<O: Sink, E: Sink>(
     Ok(())
 }
 
-// Reports why a library doesn't take a file.
+// Reports why a library can't take a file.
 fn tell_refused<O: Sink, E: Sink>(
     screen: &mut Screen<O, E>,
     path: &str,

@@ -1,4 +1,4 @@
-// Runs of images, whose output is put out as it comes.
+// Runs of images, whose output is written as it comes.
 ghost use Rattle.std.specs.Prelude.{◌≤◌, IfOk};
 
 use crate::explaining::report_end;
@@ -13,12 +13,16 @@ use al_session_stream::Sink;
 use al_tasks::{Status, World};
 use std::alloc::Global;
 
-/// How many steps a part of a run has at most.
+/// The largest number of steps of a part of a run.
 pub const PART: u64 = 1_000_000;
 
 /// How a program is run: part by part, by somebody who may look at each event.
 pub trait Run {
-    /// Shows a program that was built of these texts, or loaded; whether it is run where that is asked for.
+    /// Shows a program that was built of these sources, or loaded. Gives whether it is to be run if that is asked for.
+    ///
+    /// # Errors
+    ///
+    /// A [`Failure`] if an output can't be written or memory runs out.
     fn show<O: Sink, E: Sink>(
         &mut self,
         screen: &mut Screen<O, E>,
@@ -26,11 +30,19 @@ pub trait Run {
         texts: &Files,
     ) -> Result<bool, Failure>;
 
-    /// Before the first event.
+    /// Called before the first event.
+    ///
+    /// # Errors
+    ///
+    /// `NoMemory` if the allocator refuses memory.
     fn begin(&mut self, image: &Image, world: &World) -> Result<(), NoMemory>;
 
-    /// Runs at most so many events, with a tick of the clock after each `tick` instructions, of which so many have come since the last tick;
-    /// how many have come then.
+    /// Runs at most `steps` events, with a tick of the clock after every `tick` instructions, of which `since` came after the last tick. Gives how
+    /// many came after the last tick at the end.
+    ///
+    /// # Errors
+    ///
+    /// `NoMemory` if the allocator refuses memory.
     fn go_on(
         &mut self,
         world: &mut World,
@@ -42,7 +54,11 @@ pub trait Run {
         requires since { since ≤ tick }
         ensures { IfOk result (λ last. last ≤ tick) };
 
-    /// Prints what there is to print once the run has ended, after how it ended.
+    /// Called when the run has ended and its end was printed: prints what else there is.
+    ///
+    /// # Errors
+    ///
+    /// A [`Failure`] if an output can't be written or memory runs out.
     fn tell<O: Sink, E: Sink>(
         &mut self,
         screen: &mut Screen<O, E>,
@@ -89,7 +105,11 @@ impl Run for Unobserved {
     }
 }
 
-/// Runs an image, and prints how the run ended; the files of its units are in these folders.
+/// Runs an image, and prints how the run ended. The files of its units are in these folders.
+///
+/// # Errors
+///
+/// A [`Failure`] if an output can't be written or memory runs out.
 pub fn run_image<O: Sink, E: Sink, N: Run>(
     alloc: Global,
     screen: &mut Screen<O, E>,
@@ -107,8 +127,8 @@ pub fn run_image<O: Sink, E: Sink, N: Run>(
     Ok(ending_of(&end))
 }
 
-// Runs a program in parts, after each of which what it put out is written and let go, until it ends or its steps are spent. A run in parts is
-// the run in one, as each part is given how many instructions have come since the last tick.
+// Runs a program in parts until it ends or its steps are used up. After each part its output is written and forgotten. Each part starts with the
+// number of instructions since the last tick, so the parts are the same as the run in one.
 fn run_world<O: Sink, E: Sink, N: Run>(
     screen: &mut Screen<O, E>,
     run: &mut N,
@@ -130,7 +150,7 @@ fn run_world<O: Sink, E: Sink, N: Run>(
     Ok(())
 }
 
-// How many steps the next part has.
+// The number of steps of the next part.
 fn part_of(left: Option<u32>) -> u64
     ensures { result ≤ PART }
 {
@@ -140,7 +160,7 @@ fn part_of(left: Option<u32>) -> u64
     }
 }
 
-// How many steps are left after so many.
+// The number of steps that are left.
 fn left_after(left: Option<u32>, steps: u64) -> Option<u32> {
     let left = left?;
     match u32::try_from(steps) {
@@ -171,7 +191,7 @@ fn raised_in(
     })
 }
 
-// How a run ended whose image has these units.
+// The end of a run whose image has these units.
 fn end_of(alloc: Global, objects: &[ImageObject], status: Status) -> Result<RunEnd, NoMemory> {
     match status {
         Status::Going => Ok(RunEnd::Spent),

@@ -9,17 +9,18 @@ use crate::request::Form;
 use crate::voice::Voice;
 use al_session_stream::Sink;
 
-/// Messages go to the standard error, what programs put out to the standard output.
+/// The two outputs: messages go to the standard error, the output of programs to the standard output.
 pub struct Screen<O: Sink, E: Sink> {
     pub output: Voice<O>,
     pub error: Voice<E>,
-    /// Whether the last line that a program put out has no end yet.
+    /// Whether the last line of a program's output has no end yet.
     pub is_open: bool,
-    /// How diagnostics, and what builds and runs gave, are told.
+    /// How diagnostics and results of builds and runs are printed.
     pub form: Form,
 }
 
 impl<O: Sink, E: Sink> Screen<O, E> {
+    /// The two outputs, to which nothing was written yet.
     pub fn new(output: O, error: E) -> Screen<O, E>
         requires output { O.faults output < 2 ^ 64 - 1 }
         requires error { E.faults error < 2 ^ 64 - 1 }
@@ -33,6 +34,10 @@ impl<O: Sink, E: Sink> Screen<O, E> {
     }
 
     /// Writes the bytes on the standard output.
+    ///
+    /// # Errors
+    ///
+    /// `Output` if it can't be written.
     pub fn put(&mut self, bytes: &[u8]) -> Result<(), Failure>
         ensures put { Adds O.written O.faults O.waits self.old.output.sink self.new.output.sink self.old.output.so_far self.new.output.so_far bytes.now }
         ensures all { OnOk result (IsOk self.new.output.so_far) }
@@ -42,7 +47,11 @@ impl<O: Sink, E: Sink> Screen<O, E> {
         self.end_put()
     }
 
-    /// Writes what a program put out on the standard output.
+    /// Writes a program's output on the standard output.
+    ///
+    /// # Errors
+    ///
+    /// `Output` if it can't be written.
     pub fn put_run(&mut self, bytes: &[u8]) -> Result<(), Failure>
         ensures put { Adds O.written O.faults O.waits self.old.output.sink self.new.output.sink self.old.output.so_far self.new.output.so_far bytes.now }
         ensures quiet { self.new.error ≡ self.old.error }
@@ -55,6 +64,10 @@ impl<O: Sink, E: Sink> Screen<O, E> {
     }
 
     /// Writes the bytes on the standard error.
+    ///
+    /// # Errors
+    ///
+    /// `ErrorOutput` if it can't be written.
     pub fn tell(&mut self, bytes: &[u8]) -> Result<(), Failure>
         ensures told { Adds E.written E.faults E.waits self.old.error.sink self.new.error.sink self.old.error.so_far self.new.error.so_far (line_end self.old.is_open ++ bytes.now) }
         ensures all { OnOk result (IsOk self.new.error.so_far) }
@@ -65,7 +78,11 @@ impl<O: Sink, E: Sink> Screen<O, E> {
         self.end()
     }
 
-    /// Writes the pieces on the standard error as one line, in which controls are shown.
+    /// Writes the pieces on the standard error as one line, in which control characters are shown.
+    ///
+    /// # Errors
+    ///
+    /// A [`Failure`] if an output can't be written.
     pub fn tell_line(&mut self, pieces: &[&[u8]]) -> Result<(), Failure>
         ensures told { Adds E.written E.faults E.waits self.old.error.sink self.new.error.sink self.old.error.so_far self.new.error.so_far (line_end self.old.is_open ++ message_text (map (λ piece. piece.now) pieces.now)) }
         ensures all { OnOk result (IsOk self.new.error.so_far) }
@@ -76,7 +93,7 @@ impl<O: Sink, E: Sink> Screen<O, E> {
         self.end()
     }
 
-    /// Begins a message: a program's line that has no end gets it.
+    /// Begins a message: if a line of a program has no end, it gets one.
     pub fn begin(&mut self)
         ensures told { Adds E.written E.faults E.waits self.old.error.sink self.new.error.sink self.old.error.so_far self.new.error.so_far (line_end self.old.is_open) }
         ensures quiet { self.new.output ≡ self.old.output }
@@ -88,6 +105,10 @@ impl<O: Sink, E: Sink> Screen<O, E> {
     }
 
     /// Ends a message.
+    ///
+    /// # Errors
+    ///
+    /// A [`Failure`] if an output can't be written.
     pub fn end(&mut self) -> Result<(), Failure>
         ensures told { Adds E.written E.faults E.waits self.old.error.sink self.new.error.sink self.old.error.so_far self.new.error.so_far [] }
         ensures all { OnOk result (IsOk self.new.error.so_far) }
@@ -99,7 +120,11 @@ impl<O: Sink, E: Sink> Screen<O, E> {
         }
     }
 
-    /// Ends what is put out.
+    /// Ends a piece of output.
+    ///
+    /// # Errors
+    ///
+    /// `Output` if it can't be written.
     pub fn end_put(&mut self) -> Result<(), Failure>
         ensures put { Adds O.written O.faults O.waits self.old.output.sink self.new.output.sink self.old.output.so_far self.new.output.so_far [] }
         ensures all { OnOk result (IsOk self.new.output.so_far) }

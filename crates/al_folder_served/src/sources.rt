@@ -15,14 +15,14 @@ pub struct Seen {
 /// The sources of some folders, by name.
 pub struct Sources {
     pub texts: al_base::Files,
-    /// In which folder each is.
+    /// The folder of each source.
     pub folders: al_base::Files,
     pub seen: BTreeMap<String, Seen>,
-    /// What was listed of the folders; none before they are.
+    /// The names that were listed in the folders; none before they were.
     pub listed: Option<Vec<u8>>,
     /// Whether each name that is needed is that of a file.
     pub are_files: bool,
-    /// Whether each could be read.
+    /// Whether each source could be read.
     pub are_whole: bool,
 }
 
@@ -40,6 +40,7 @@ impl Drop for Sources {
 }
 
 impl Sources {
+    /// No sources.
     pub fn new(alloc: Global) -> Sources
         ensures { (result.texts ≡ []) × (result.folders ≡ []) × IsTrue result.are_whole }
     {

@@ -1,4 +1,4 @@
-// What is printed of builds and runs.
+// What builds and runs print.
 ghost use Rattle.std.specs.Prelude.{◌≡◌, ◌-◌, ◌^◌, ◌<◌, ◌++◌, IsOk, map};
 ghost use Rattle.al_base.specs.Batch.{finding_of, key_of};
 ghost use Rattle.al_session_stream.specs.Output.{Adds};
@@ -23,6 +23,10 @@ use al_session_served::{Built, Outcome};
 use al_session_stream::{Device, Sink};
 
 /// Prints why the last build gave no program, if it gave none.
+///
+/// # Errors
+///
+/// A [`Failure`] if an output can't be written.
 pub fn tell_build<L: FolderLibrary, O: Sink, E: Sink>(
     screen: &mut Screen<O, E>,
     library: &L,
@@ -73,7 +77,7 @@ fn emit_built<K: Sink>(
     }
 }
 
-// Writes what is wrong with the sources.
+// Writes the errors of the sources.
 fn emit_found<K: Sink>(
     so_far: Result<(), Device>,
     writer: &mut K,
@@ -95,7 +99,7 @@ fn emit_found<K: Sink>(
     )
 }
 
-// Whether nothing is said of a run that ended so.
+// Whether nothing is printed for such an end of a run.
 fn is_silent(end: &RunEnd) -> bool
     ensures { result ≡ is_silent end.now }
 {
@@ -112,7 +116,11 @@ fn is_silent(end: &RunEnd) -> bool
     }
 }
 
-/// Prints how a run ended, whose files are in these folders.
+/// Prints how a run ended. The files of its units are in these folders.
+///
+/// # Errors
+///
+/// A [`Failure`] if an output can't be written.
 pub fn tell_end<O: Sink, E: Sink>(
     screen: &mut Screen<O, E>,
     folders: &Files,
@@ -132,7 +140,7 @@ pub fn tell_end<O: Sink, E: Sink>(
 /// What a build did.
 #[derive(Clone, Copy)]
 pub struct Progress {
-    /// How many units it checked, of so many sources.
+    /// The number of units that it checked, and of sources.
     pub checked: usize,
     pub sources: usize,
     pub change: ImageChange,
@@ -140,6 +148,10 @@ pub struct Progress {
 }
 
 /// Prints what a build did.
+///
+/// # Errors
+///
+/// A [`Failure`] if an output can't be written.
 pub fn tell_progress<O: Sink, E: Sink>(
     screen: &mut Screen<O, E>,
     progress: Progress,
@@ -158,6 +170,10 @@ pub fn tell_progress<O: Sink, E: Sink>(
 }
 
 /// Prints a line for each part of a unit on the standard output.
+///
+/// # Errors
+///
+/// A [`Failure`] if an output can't be written.
 pub fn print_parts<O: Sink, E: Sink>(
     screen: &mut Screen<O, E>,
     keys: &[UnitKey],
@@ -170,6 +186,10 @@ pub fn print_parts<O: Sink, E: Sink>(
 }
 
 /// Prints a line for each part of a unit on the standard error.
+///
+/// # Errors
+///
+/// A [`Failure`] if an output can't be written.
 pub fn tell_parts<O: Sink, E: Sink>(
     screen: &mut Screen<O, E>,
     keys: &[UnitKey],

@@ -1,4 +1,4 @@
-// Whether folders are as they were read.
+// Whether folders are unchanged since they were read.
 use crate::disk::{Disk, Listing, PathKind};
 use crate::failure::Failure;
 use crate::paths::path_of;
@@ -6,8 +6,12 @@ use crate::request::Request;
 use crate::sources::{Seen, Sources};
 use std::alloc::Global;
 
-/// Whether the folders are as they were when these sources were read: the same names, and each file old then and of the same stamp. Nothing
-/// is opened.
+/// Whether the folders are as they were when these sources were read: they have the same names, and each file was old then and has the same stamp. No
+/// file is opened.
+///
+/// # Errors
+///
+/// `Memory` if memory runs out.
 pub fn are_unchanged<D: Disk>(
     alloc: Global,
     disk: &D,
@@ -38,7 +42,11 @@ pub fn are_unchanged<D: Disk>(
     Ok(true)
 }
 
-/// Adds the names of a folder, each with a byte after it that no name has, and how many names aren't UTF-8.
+/// Adds the names of a folder, each with a byte after it that no name has, and the number of names that aren't UTF-8.
+///
+/// # Errors
+///
+/// `Memory` if memory runs out.
 pub fn add_listing(listed: &mut Vec<u8>, listing: &Listing) -> Result<(), Failure> {
     for name in listing.names.iter() {
         listed.extend_from_slice(name.as_bytes())?;

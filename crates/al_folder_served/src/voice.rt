@@ -18,12 +18,13 @@ use al_session_stream::{Device, Sink, emit, finish};
 /// An output, to which nothing more is written once writing failed.
 pub struct Voice<K: Sink> {
     pub sink: K,
-    /// How writing has gone.
+    /// The result of writing so far.
     pub so_far: Result<(), Device>,
     ghost ready: { IsOk so_far → K.faults sink < 2 ^ 64 - 1 },
 }
 
 impl<K: Sink> Voice<K> {
+    /// An output to which nothing was written yet.
     pub fn new(sink: K) -> Voice<K>
         requires { K.faults sink < 2 ^ 64 - 1 }
         ensures { (result.sink ≡ sink) × IsOk result.so_far }
@@ -34,6 +35,7 @@ impl<K: Sink> Voice<K> {
         }
     }
 
+    /// The sink.
     pub fn into_sink(self) -> K
         ensures { result ≡ self.sink }
     {
@@ -48,14 +50,14 @@ impl<K: Sink> Voice<K> {
         self.so_far = emit(self.so_far, &mut self.sink, bytes);
     }
 
-    /// Writes the pieces as one line, in which controls are shown.
+    /// Writes the pieces as one line, in which control characters are shown.
     pub fn say_line(&mut self, pieces: &[&[u8]])
         ensures { Adds K.written K.faults K.waits self.old.sink self.new.sink self.old.so_far self.new.so_far (message_text (map (λ piece. piece.now) pieces.now)) }
     {
         self.so_far = emit_message(self.so_far, &mut self.sink, pieces);
     }
 
-    /// Writes a line with a caret under the byte before which so many bytes of the line are.
+    /// Writes a line with a caret under the byte at a place.
     pub fn say_excerpt(&mut self, place: usize, line: &[u8])
         ensures { Adds K.written K.faults K.waits self.old.sink self.new.sink self.old.so_far self.new.so_far (excerpt place line.now) }
     {
@@ -69,7 +71,7 @@ impl<K: Sink> Voice<K> {
         self.so_far = emit_parts(self.so_far, &mut self.sink, keys);
     }
 
-    /// Writes how a run ended, whose files are in these folders.
+    /// Writes how a run ended. The files of its units are in these folders.
     pub fn say_end(&mut self, folders: &Files, end: &RunEnd)
         ensures { Adds K.written K.faults K.waits self.old.sink self.new.sink self.old.so_far self.new.so_far (end_text folders.now end.now) }
     {
@@ -83,7 +85,7 @@ impl<K: Sink> Voice<K> {
         self.so_far = emit_progress(self.so_far, &mut self.sink, checked, units, change, millis);
     }
 
-    /// Writes diagnostics of these files with their notes, and how many errors and units not checked there are.
+    /// Writes diagnostics of these files with their notes, the number of errors, and the number of units that weren't checked.
     pub fn say_report(
         &mut self,
         folders: &Files,
@@ -106,7 +108,11 @@ impl<K: Sink> Voice<K> {
         );
     }
 
-    /// Passes on what was written. Returns whether all could be written.
+    /// Passes on what was written.
+    ///
+    /// # Errors
+    ///
+    /// The error of the first write that failed, or of passing on.
     pub fn pass(&mut self) -> Result<(), Device>
         ensures adds { Adds K.written K.faults K.waits self.old.sink self.new.sink self.old.so_far self.new.so_far [] }
         ensures result { result ≡ self.new.so_far }

@@ -24,13 +24,13 @@ use al_session_stream::Sink;
 use std::alloc::Global;
 use std::io;
 
-// How many lines of the standard input are read at most.
+// The largest number of lines of the standard input that are read.
 const MOST_LINES: u64 = 1_000_000;
 
-// After how many steps a run ends that a line asks for, without `--steps`: an interrupt would end the watch too.
+// The number of steps after which a run ends that a line asks for, without `--steps`. An interrupt would end the watch too.
 const WATCH_STEPS: u32 = 100_000_000;
 
-/// What a watch keeps: the sources that its library holds, and what was printed of names.
+/// What a watch keeps: the sources that its library holds, and the names that were reported.
 #[derive(Drop)]
 struct Kept<'a> {
     sources: Sources,
@@ -38,13 +38,21 @@ struct Kept<'a> {
     unit: &'a Name,
 }
 
-/// Where the lines come from that ask for something.
+/// The source of the lines that ask for something.
 pub trait LineSource {
-    /// The next line, without its end; none at the end of the input.
+    /// The next line, without its end; `None` at the end of the input.
+    ///
+    /// # Errors
+    ///
+    /// The machine's error if the input can't be read.
     fn next_line(&mut self, alloc: Global) -> io::Result<Option<Vec<u8>>>;
 }
 
 /// Builds the folders, and at each line of the standard input does what it asks for.
+///
+/// # Errors
+///
+/// A [`Failure`] if an output can't be written, the input or the clock can't be read, or memory runs out.
 pub fn watch<L: FolderLibrary, D: Disk, O: Sink, E: Sink, N: Run, S: LineSource>(
     alloc: Global,
     disk: &mut D,
@@ -104,7 +112,7 @@ fn uses_of(request: &Request<'_>) -> Uses {
     }
 }
 
-// A line of a terminal of another system ends with CR and LF.
+// The line without a CR at its end, which terminals of other systems send before LF.
 fn without_return(line: &[u8]) -> &[u8] {
     match line {
         [front @ .., b'\r'] => front,
@@ -112,7 +120,7 @@ fn without_return(line: &[u8]) -> &[u8] {
     }
 }
 
-// Does what the line asks for. Returns whether more may be asked for.
+// Does what the line asks for. Gives whether more may be asked for.
 fn serve_line<L: FolderLibrary, D: Disk, O: Sink, E: Sink, N: Run>(
     alloc: Global,
     disk: &mut D,
@@ -147,7 +155,7 @@ fn serve_line<L: FolderLibrary, D: Disk, O: Sink, E: Sink, N: Run>(
     Ok(true)
 }
 
-// Reads the folders again, and hands the library what has changed. Returns whether all could be read; if not, all is as before.
+// Reads the folders again, and gives the library what has changed. Gives whether all could be read; if not, the library is as before.
 fn read_again<L: FolderLibrary, D: Disk, O: Sink, E: Sink>(
     alloc: Global,
     disk: &D,
@@ -212,6 +220,11 @@ fn build_again<L: FolderLibrary, D: Disk, O: Sink, E: Sink, N: Run>(
     Ok(())
 }
 
+/// The milliseconds that passed since some moment.
+///
+/// # Errors
+///
+/// `Clock` if the clock can't be read.
 pub fn millis<D: Disk>(disk: &D) -> Result<u64, Failure> {
     match disk.millis() {
         Ok(millis) => Ok(millis),
@@ -219,7 +232,11 @@ pub fn millis<D: Disk>(disk: &D) -> Result<u64, Failure> {
     }
 }
 
-/// Builds. Returns what that did to the image.
+/// Builds. Gives what that did to the image.
+///
+/// # Errors
+///
+/// `Memory` if memory runs out.
 pub fn rebuild<L: FolderLibrary>(
     library: &mut L,
     sources: &Sources,
@@ -238,7 +255,7 @@ pub fn rebuild<L: FolderLibrary>(
     }
 }
 
-// Whether the last build gave an image, and of how many units.
+// The number of units in the image of the last build, if it gave one.
 fn image_units<L: FolderLibrary>(library: &L) -> Option<usize> {
     match library.last()?.outcome {
         Outcome::Made(order, _) => Some(order.len()),

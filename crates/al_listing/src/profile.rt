@@ -52,6 +52,10 @@ impl Share {
 
 impl Profile {
     /// Of a run of the image from its start.
+    ///
+    /// # Errors
+    ///
+    /// `NoMemory` if memory runs out.
     pub fn new(alloc: Global, image: &Image) -> Result<Profile, NoMemory> {
         let mut counts = Vec::new(alloc);
         counts.resize(image.code().len(), 0)?;

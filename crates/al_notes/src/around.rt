@@ -8,6 +8,10 @@ use al_sketch::Sketch;
 use std::alloc::{AllocError, Global};
 
 /// What is named in a file's context clause; of the file that is asked for, Standard, its declaration and the units above it too.
+///
+/// # Errors
+///
+/// `AllocError` if memory runs out.
 pub fn files_around(
     alloc: Global,
     texts: &Files,

@@ -8,6 +8,10 @@ use al_subset::{construct_at, mistake_at};
 use std::alloc::AllocError;
 
 /// What the syntax error is, as far as its lexemes tell, and what is possible there.
+///
+/// # Errors
+///
+/// `AllocError` if memory runs out.
 pub fn syntax(view: &View<'_>, said: &mut Said) -> Result<(), AllocError> {
     let fault = view.at;
     if let Some(mistake) = mistake_at(view.sketch, fault) {

@@ -8,6 +8,10 @@ use al_sketch::DeclaredKind;
 use std::alloc::AllocError;
 
 /// What a static expression may have, and what the name there is.
+///
+/// # Errors
+///
+/// `AllocError` if memory runs out.
 pub fn not_static(view: &View<'_>, said: &mut Said) -> Result<(), AllocError> {
     let named = meant(view, view.word())?;
     if let Some(found) = named.first() {
@@ -24,6 +28,10 @@ pub fn not_static(view: &View<'_>, said: &mut Said) -> Result<(), AllocError> {
 }
 
 /// The bounds that are to be kept.
+///
+/// # Errors
+///
+/// `AllocError` if memory runs out.
 pub fn out_of_limits(view: &View<'_>, said: &mut Said) -> Result<(), AllocError> {
     let arrow = view.at.saturating_sub(1);
     if view.at > 1 && view.sketch.is(arrow, b"=>") {

@@ -8,6 +8,10 @@ use al_sketch::{DeclaredKind, Sketch};
 use std::alloc::AllocError;
 
 /// Says of the calls from a lexeme to the one before that why they don't fit.
+///
+/// # Errors
+///
+/// `AllocError` if memory runs out.
 pub fn check_calls(
     view: &View<'_>,
     from: usize,
@@ -153,6 +157,10 @@ fn tell_formal<'a>(
 }
 
 /// E403: the candidates, with their places.
+///
+/// # Errors
+///
+/// `AllocError` if memory runs out.
 pub fn ambiguous(view: &View<'_>, said: &mut Said) -> Result<(), AllocError> {
     let end = view.sketch.declaration_end(view.at);
     for index in view.at..end {
@@ -164,7 +172,7 @@ pub fn ambiguous(view: &View<'_>, said: &mut Said) -> Result<(), AllocError> {
     note!(said; b"a qualified expression chooses one: T'(..)")
 }
 
-// Says what the name may mean that begins at a lexeme, where that is more than one declaration.
+// Says what the name that begins at a lexeme may mean, if that is more than one declaration.
 fn tell_candidates(view: &View<'_>, index: usize, said: &mut Said) -> Result<(), AllocError> {
     let (some, _behind) = head_of(view, index)?;
     if some.len() > 1 {

@@ -7,6 +7,10 @@ use al_sketch::{Declared, DeclaredKind, ScopeKind, Sketch};
 use std::alloc::AllocError;
 
 /// The place of the other declaration of the name.
+///
+/// # Errors
+///
+/// `AllocError` if memory runs out.
 pub fn duplicate(view: &View<'_>, said: &mut Said) -> Result<(), AllocError> {
     let Some(own) = own_declaration(view.sketch, view.at) else {
         return Ok(());
@@ -79,6 +83,10 @@ pub fn what_is(kind: DeclaredKind) -> &'static [u8] {
 }
 
 /// Which declarations have no body.
+///
+/// # Errors
+///
+/// `AllocError` if memory runs out.
 pub fn missing_completion(view: &View<'_>, said: &mut Said) -> Result<(), AllocError> {
     for file in view.around {
         let file = file.as_slice();
@@ -176,6 +184,10 @@ fn has_body(view: &View<'_>, of: &Sketch, declared: &Declared, scope: usize) -> 
 }
 
 /// The place of the declaration, and what differs.
+///
+/// # Errors
+///
+/// `AllocError` if memory runs out.
 pub fn not_conformant(view: &View<'_>, said: &mut Said) -> Result<(), AllocError> {
     let Some(own) = own_declaration(view.sketch, view.at) else {
         return Ok(());

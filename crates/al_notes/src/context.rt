@@ -3,6 +3,10 @@ use al_sketch::Sketch;
 use std::alloc::{AllocError, Global};
 
 /// The names in a source's with clauses: the first lexeme of each, and the one behind its last.
+///
+/// # Errors
+///
+/// `AllocError` if memory runs out.
 pub fn withs_of(alloc: Global, sketch: &Sketch) -> Result<Vec<(usize, usize)>, AllocError> {
     let mut names = Vec::new(alloc);
     let end = match sketch.scopes().get(1) {
@@ -40,6 +44,10 @@ fn add_names(
 }
 
 /// Whether a use clause before a lexeme names a package.
+///
+/// # Errors
+///
+/// `AllocError` if memory runs out.
 pub fn is_used(alloc: Global, sketch: &Sketch, at: usize, unit: &[u8]) -> Result<bool, AllocError> {
     let mut names = Vec::new(alloc);
     for index in 0..at.min(sketch.len()) {

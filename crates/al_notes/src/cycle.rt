@@ -18,6 +18,10 @@ struct Step {
 }
 
 /// Tells the units of a cycle one by one, as far as declarations make it.
+///
+/// # Errors
+///
+/// `AllocError` if memory runs out.
 pub fn cycle(view: &View<'_>, said: &mut Said) -> Result<(), AllocError> {
     let mut steps: Vec<Step> = Vec::new(view.alloc);
     let first = Vec::from_slice(view.alloc, view.file)?;

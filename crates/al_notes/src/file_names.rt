@@ -4,11 +4,19 @@ use al_base::{Name, UnitKey, UnitKind, file_name_of};
 use std::alloc::{AllocError, Global};
 
 /// The file of a unit's declaration.
+///
+/// # Errors
+///
+/// `AllocError` if memory runs out.
 pub fn declaration_file(alloc: Global, unit: &[u8]) -> Result<Vec<u8>, AllocError> {
     file_of(alloc, unit, UnitKind::Decl)
 }
 
 /// The file of a unit's body, or of a subunit.
+///
+/// # Errors
+///
+/// `AllocError` if memory runs out.
 pub fn body_file(alloc: Global, unit: &[u8]) -> Result<Vec<u8>, AllocError> {
     file_of(alloc, unit, UnitKind::Body)
 }
@@ -22,6 +30,10 @@ fn file_of(alloc: Global, unit: &[u8], kind: UnitKind) -> Result<Vec<u8>, AllocE
 }
 
 /// The unit that a file's name is of.
+///
+/// # Errors
+///
+/// `AllocError` if memory runs out.
 pub fn unit_of_file(alloc: Global, file: &[u8]) -> Result<Vec<u8>, AllocError> {
     let mut unit = Vec::from_slice(alloc, stem(file))?;
     for byte in unit.iter_mut() {

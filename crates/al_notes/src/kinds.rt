@@ -1,4 +1,4 @@
-// E306, E308 to E310, E404 to E406: names of another kind than is wanted.
+// E306, E308 to E310, E404 to E406: names of another kind than the one that is needed.
 use crate::completions::{named_scope, what_is};
 use crate::note;
 use crate::operands::check_attributes;
@@ -9,6 +9,10 @@ use al_sketch::{DeclaredKind, LexemeKind};
 use std::alloc::AllocError;
 
 /// What is allowed there.
+///
+/// # Errors
+///
+/// `AllocError` if memory runs out.
 pub fn not_allowed(view: &View<'_>, code: u16, said: &mut Said) -> Result<(), AllocError> {
     match code {
         306 => not_here(view, said),
@@ -47,6 +51,10 @@ fn end_name(view: &View<'_>, said: &mut Said) -> Result<(), AllocError> {
 }
 
 /// What the name denotes.
+///
+/// # Errors
+///
+/// `AllocError` if memory runs out.
 pub fn wrong_kind(view: &View<'_>, said: &mut Said) -> Result<(), AllocError> {
     let last = view.sketch.name_end(view.at).saturating_sub(1);
     tell_attribute(view, last, said)?;
@@ -103,11 +111,19 @@ fn tell_kind(view: &View<'_>, at: usize, said: &mut Said) -> Result<bool, AllocE
 }
 
 /// Why a static expression has no value.
+///
+/// # Errors
+///
+/// `AllocError` if memory runs out.
 pub fn static_failure(said: &mut Said) -> Result<(), AllocError> {
     note!(said; b"it divides by zero, or its value lies outside its type or outside -2 ** 63 .. 2 ** 63 - 1; it is computed when the program is compiled (ARM 4.9)")
 }
 
 /// What the name is that is no variable.
+///
+/// # Errors
+///
+/// `AllocError` if memory runs out.
 pub fn not_a_variable(view: &View<'_>, said: &mut Said) -> Result<(), AllocError> {
     let named = meant(view, view.word())?;
     let Some(found) = named.first() else {

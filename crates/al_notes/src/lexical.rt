@@ -7,6 +7,10 @@ use al_subset::construct_of;
 use std::alloc::AllocError;
 
 /// What is wrong with the lexeme.
+///
+/// # Errors
+///
+/// `AllocError` if memory runs out.
 pub fn lexical(view: &View<'_>, code: u16, said: &mut Said) -> Result<(), AllocError> {
     match code {
         1 => illegal_character(view, said),

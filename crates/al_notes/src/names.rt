@@ -6,6 +6,10 @@ use al_sketch::{DeclaredKind, LexemeKind, ScopeKind};
 use std::alloc::AllocError;
 
 /// A type of Standard.
+///
+/// # Errors
+///
+/// `AllocError` if memory runs out.
 pub fn standard<'a>(view: &View<'a>, name: &[u8]) -> Result<Kind<'a>, AllocError> {
     for found in view.all_named(name)?.iter() {
         if found.file == b"standard".as_slice() {
@@ -16,6 +20,10 @@ pub fn standard<'a>(view: &View<'a>, name: &[u8]) -> Result<Kind<'a>, AllocError
 }
 
 /// What the name means that begins at a lexeme, as far as its unit's name goes, and the lexeme behind.
+///
+/// # Errors
+///
+/// `AllocError` if memory runs out.
 pub fn head_of<'a>(view: &View<'a>, first: usize) -> Result<(Vec<Found<'a>>, usize), AllocError> {
     let end = view.sketch.name_end(first);
     for dot in first..end {
@@ -33,6 +41,10 @@ pub fn head_of<'a>(view: &View<'a>, first: usize) -> Result<(Vec<Found<'a>>, usi
 }
 
 /// Of which type the name is that begins at a lexeme, and the lexeme behind it.
+///
+/// # Errors
+///
+/// `AllocError` if memory runs out.
 pub fn kind_of_name<'a>(view: &View<'a>, first: usize) -> Result<(Kind<'a>, usize), AllocError> {
     let (some, behind) = head_of(view, first)?;
     let mut kind = kind_of_all(view, some.as_slice())?;
@@ -61,7 +73,7 @@ fn takes_parentheses(found: &Found<'_>) -> bool {
     }
 }
 
-// The type that all of these declarations have; unknown where they differ.
+// The type that all of these declarations have; unknown if they differ.
 fn kind_of_all<'a>(view: &View<'a>, some: &[Found<'a>]) -> Result<Kind<'a>, AllocError> {
     let Some(first) = some.first() else {
         return Ok(Kind::Unknown);
@@ -108,7 +120,7 @@ fn kind_of_loop<'a>(view: &View<'a>, found: &Found<'a>) -> Result<Kind<'a>, Allo
     Ok(Kind::Unknown)
 }
 
-// What a part behind a name gives: an index, a component or an attribute; the same lexeme where there is none.
+// What a part after a name gives: an index, a component or an attribute; the same lexeme if there is none.
 fn part_of<'a>(
     view: &View<'a>,
     kind: Kind<'a>,

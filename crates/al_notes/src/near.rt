@@ -14,6 +14,11 @@ pub struct Nearest {
 }
 
 impl Nearest {
+    /// No name is near yet to the one that was written.
+    ///
+    /// # Errors
+    ///
+    /// `AllocError` if memory runs out.
     pub fn to(alloc: Global, wanted: &[u8]) -> Result<Nearest, AllocError> {
         let lower = folded(alloc, wanted)?;
         let most = match wanted.len() {
@@ -30,6 +35,10 @@ impl Nearest {
     }
 
     /// Sees a name: it is the nearest from now on, if it is nearer than those before it.
+    ///
+    /// # Errors
+    ///
+    /// `AllocError` if memory runs out.
     pub fn see(&mut self, name: &[u8]) -> Result<(), AllocError> {
         if name.len().abs_diff(self.wanted.len()) > self.most || self.most == 0 {
             return Ok(());

@@ -10,6 +10,10 @@ use al_subset::predefined_name;
 use std::alloc::AllocError;
 
 /// Why no declaration of a name is visible, and which one may be meant.
+///
+/// # Errors
+///
+/// `AllocError` if memory runs out.
 pub fn not_visible(view: &View<'_>, said: &mut Said) -> Result<(), AllocError> {
     let before = view.at.saturating_sub(1);
     if view.at > 1 && view.sketch.is(before, b".") {
@@ -70,6 +74,10 @@ fn say_nowhere(view: &View<'_>, said: &mut Said) -> Result<(), AllocError> {
 }
 
 /// Says that a name of Ada's isn't there.
+///
+/// # Errors
+///
+/// `AllocError` if memory runs out.
 pub fn tell_unknown(name: &[u8], instead: &str, said: &mut Said) -> Result<(), AllocError> {
     say_outside(name, said)?;
     note!(said; b"instead: ", instead.as_bytes())

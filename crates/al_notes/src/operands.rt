@@ -9,6 +9,10 @@ use std::alloc::AllocError;
 
 /// Says of the first operator from a lexeme to the one before that of which types its operands are, where these don't fit: outside the
 /// parentheses of calls, or inside them.
+///
+/// # Errors
+///
+/// `AllocError` if memory runs out.
 pub fn check_operands(
     view: &View<'_>,
     from: usize,
@@ -45,6 +49,10 @@ pub fn check_operands(
 }
 
 /// Says of an aggregate from a lexeme to the one before that, that it isn't allowed there.
+///
+/// # Errors
+///
+/// `AllocError` if memory runs out.
 pub fn check_aggregates(
     view: &View<'_>,
     from: usize,
@@ -179,6 +187,10 @@ fn tell_joined(left: Kind<'_>, right: Kind<'_>, said: &mut Said) -> Result<(), A
 }
 
 /// Says of an attribute that there isn't.
+///
+/// # Errors
+///
+/// `AllocError` if memory runs out.
 pub fn check_attributes(
     view: &View<'_>,
     from: usize,

@@ -6,6 +6,10 @@ use crate::view::View;
 use std::alloc::AllocError;
 
 /// What the pragma is, and which there are.
+///
+/// # Errors
+///
+/// `AllocError` if memory runs out.
 pub fn bad_pragma(view: &View<'_>, said: &mut Said) -> Result<(), AllocError> {
     let name = view.word();
     if holds_anyway(view) {

@@ -13,6 +13,7 @@ pub struct Said {
 }
 
 impl Said {
+    /// No sentences.
     pub fn new(alloc: Global) -> Said {
         Said {
             alloc,
@@ -54,11 +55,19 @@ macro_rules! note {
 }
 
 /// Says that something isn't in the subset, and where the page of the language has the list.
+///
+/// # Errors
+///
+/// `AllocError` if memory runs out.
 pub fn say_outside(what: &[u8], said: &mut Said) -> Result<(), AllocError> {
     note!(said; what, b" isn't in this subset of Ada (docs/language.md#what-there-isnt)")
 }
 
 /// One piece and then the other.
+///
+/// # Errors
+///
+/// `AllocError` if memory runs out.
 pub fn joined(alloc: Global, first: &[u8], second: &[u8]) -> Result<Vec<u8>, AllocError> {
     let mut whole = Vec::from_slice(alloc, first)?;
     whole.extend_from_slice(second)?;
@@ -66,11 +75,19 @@ pub fn joined(alloc: Global, first: &[u8], second: &[u8]) -> Result<Vec<u8>, All
 }
 
 /// A number in digits.
+///
+/// # Errors
+///
+/// `AllocError` if memory runs out.
 pub fn digits(alloc: Global, number: usize) -> Result<String, AllocError> {
     format!(in alloc; "{number}")
 }
 
 /// FILE:LINE.
+///
+/// # Errors
+///
+/// `AllocError` if memory runs out.
 pub fn place_in(alloc: Global, file: &[u8], line: u32) -> Result<Vec<u8>, AllocError> {
     let number = digits(alloc, line as usize)?;
     let mut place = joined(alloc, file, b":")?;
@@ -79,6 +96,10 @@ pub fn place_in(alloc: Global, file: &[u8], line: u32) -> Result<Vec<u8>, AllocE
 }
 
 /// The bytes in lower case.
+///
+/// # Errors
+///
+/// `AllocError` if memory runs out.
 pub fn folded(alloc: Global, bytes: &[u8]) -> Result<Vec<u8>, AllocError> {
     let mut whole = Vec::with_capacity(alloc, bytes.len())?;
     for byte in bytes {

@@ -8,6 +8,10 @@ use al_sketch::{Declared, DeclaredKind, ScopeKind, Sketch};
 use std::alloc::AllocError;
 
 /// What is wrong with the statement.
+///
+/// # Errors
+///
+/// `AllocError` if memory runs out.
 pub fn statements(view: &View<'_>, code: u16, said: &mut Said) -> Result<(), AllocError> {
     match code {
         501 => bad_return(view, said),
@@ -154,6 +158,10 @@ fn is_many(sketch: &Sketch, index: usize) -> bool {
 }
 
 /// What is wrong with a task or a protected object.
+///
+/// # Errors
+///
+/// `AllocError` if memory runs out.
 pub fn tasks(view: &View<'_>, code: u16, said: &mut Said) -> Result<(), AllocError> {
     match code {
         601 =>

@@ -15,6 +15,10 @@ use crate::view::View;
 use std::alloc::AllocError;
 
 /// Says what there is to say of a diagnostic of this code.
+///
+/// # Errors
+///
+/// `AllocError` if memory runs out.
 pub fn tell(view: &View<'_>, code: u16, said: &mut Said) -> Result<(), AllocError> {
     match code {
         1..=6 => lexical(view, code, said),

@@ -12,7 +12,7 @@ use std::alloc::AllocError;
 /// Of which type something is.
 #[derive(Clone, Copy)]
 pub enum Kind<'a> {
-    /// The sources don't tell it.
+    /// The sources don't show it.
     Unknown,
     /// A number, of every integer type.
     Universal,
@@ -76,6 +76,10 @@ pub fn is_no_integer(found: &Found<'_>) -> bool {
 }
 
 /// The type that a mark in a source names, through subtypes.
+///
+/// # Errors
+///
+/// `AllocError` if memory runs out.
 pub fn type_of_mark<'a>(
     view: &View<'a>,
     file: &'a [u8],
@@ -103,6 +107,10 @@ pub fn type_of_mark<'a>(
 }
 
 /// The type or subtype that a mark names, if it is one alone.
+///
+/// # Errors
+///
+/// `AllocError` if memory runs out.
 pub fn named_by_mark<'a>(
     view: &View<'a>,
     file: &[u8],
@@ -153,6 +161,10 @@ fn first_type<'a>(some: &[Found<'a>]) -> Option<Found<'a>> {
 }
 
 /// The type of what a declaration declares, or gives back.
+///
+/// # Errors
+///
+/// `AllocError` if memory runs out.
 pub fn mark_type<'a>(view: &View<'a>, found: &Found<'a>) -> Result<Kind<'a>, AllocError> {
     if found.declared.mark.1 == 0 {
         return Ok(Kind::Unknown);
@@ -170,6 +182,10 @@ pub fn kind_of_type<'a>(found: Option<Found<'a>>) -> Kind<'a> {
 }
 
 /// The type of the expression from a lexeme to the one before that.
+///
+/// # Errors
+///
+/// `AllocError` if memory runs out.
 pub fn type_of_expression<'a>(
     view: &View<'a>,
     from: usize,
@@ -273,6 +289,10 @@ fn type_of_operands<'a>(view: &View<'a>, from: usize, to: usize) -> Result<Kind<
 }
 
 /// E402: what is wanted and what was found.
+///
+/// # Errors
+///
+/// `AllocError` if memory runs out.
 pub fn no_interpretation(view: &View<'_>, said: &mut Said) -> Result<(), AllocError> {
     let end = context_end(view.sketch, view.at);
     check_aggregates(view, view.at, end, said)?;
@@ -300,7 +320,7 @@ fn check_parts(view: &View<'_>, end: usize, said: &mut Said) -> Result<(), Alloc
     Ok(())
 }
 
-// Where the context ends that begins at a lexeme.
+// The end of the context that begins at a lexeme.
 fn context_end(sketch: &Sketch, from: usize) -> usize {
     let end = sketch.declaration_end(from);
     for index in from..end {
@@ -315,7 +335,7 @@ fn context_end(sketch: &Sketch, from: usize) -> usize {
     end
 }
 
-// Says what is wanted there and what was found, if these differ.
+// Says which type is needed there and which was found, if they differ.
 fn tell_wanted(view: &View<'_>, end: usize, said: &mut Said) -> Result<(), AllocError> {
     let before = view.at.saturating_sub(1);
     let word = view.sketch.word(before);

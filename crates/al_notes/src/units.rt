@@ -12,6 +12,10 @@ use al_subset::predefined_unit;
 use std::alloc::AllocError;
 
 /// What is wrong with a unit or its dependences.
+///
+/// # Errors
+///
+/// `AllocError` if memory runs out.
 pub fn units(view: &View<'_>, code: u16, said: &mut Said) -> Result<(), AllocError> {
     match code {
         201 => file_name(view, said),

@@ -37,6 +37,10 @@ impl<'a> Found<'a> {
     }
 
     /// Where it is declared: at FILE:LINE; of a predefined one in its unit.
+    ///
+    /// # Errors
+    ///
+    /// `AllocError` if memory runs out.
     pub fn place(&self, alloc: Global) -> Result<Vec<u8>, AllocError> {
         let spot = self.spot(alloc)?;
         let before: &[u8] = if predefined_text(self.file).is_some() {
@@ -48,6 +52,10 @@ impl<'a> Found<'a> {
     }
 
     /// FILE:LINE of its name; of a predefined one its unit.
+    ///
+    /// # Errors
+    ///
+    /// `AllocError` if memory runs out.
     pub fn spot(&self, alloc: Global) -> Result<Vec<u8>, AllocError> {
         if predefined_text(self.file).is_some() {
             return Vec::from_slice(alloc, self.unit());
@@ -89,6 +97,10 @@ impl<'a> View<'a> {
     }
 
     /// The unit of a file around, in lower case.
+    ///
+    /// # Errors
+    ///
+    /// `AllocError` if memory runs out.
     pub fn unit_of(&self, file: &[u8]) -> Result<Vec<u8>, AllocError> {
         if predefined_text(file).is_some() {
             folded(self.alloc, file)
@@ -98,6 +110,10 @@ impl<'a> View<'a> {
     }
 
     /// All declarations of a name in the files around, in the order of these files.
+    ///
+    /// # Errors
+    ///
+    /// `AllocError` if memory runs out.
     pub fn all_named(&self, name: &[u8]) -> Result<Vec<Found<'a>>, AllocError> {
         let mut all = Vec::new(self.alloc);
         for file in self.around {

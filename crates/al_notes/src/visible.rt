@@ -23,6 +23,10 @@ pub enum Way {
 }
 
 /// How a declaration is visible from the place of a diagnostic.
+///
+/// # Errors
+///
+/// `AllocError` if memory runs out.
 pub fn way_of(view: &View<'_>, found: &Found<'_>) -> Result<Way, AllocError> {
     let declared = &found.declared;
     if found.file == view.file {
@@ -95,6 +99,10 @@ fn way_in_file(view: &View<'_>, found: &Found<'_>) -> Way {
 }
 
 /// The declarations that a name means at the place, as far as the sources tell: the innermost ones, else those of use clauses.
+///
+/// # Errors
+///
+/// `AllocError` if memory runs out.
 pub fn meant<'a>(view: &View<'a>, name: &[u8]) -> Result<Vec<Found<'a>>, AllocError> {
     let all = view.all_named(name)?;
     let mut direct: Vec<Found<'a>> = Vec::new(view.alloc);
@@ -134,6 +142,10 @@ pub fn is_overloadable(found: &Found<'_>) -> bool {
 }
 
 /// The declarations in the visible part of a unit around.
+///
+/// # Errors
+///
+/// `AllocError` if memory runs out.
 pub fn declared_in<'a>(
     view: &View<'a>,
     unit: &[u8],

@@ -47,6 +47,11 @@ impl<'a> Parts<'a> {
         }
     }
 
+    /// An error at the place of the next lexeme.
+    ///
+    /// # Errors
+    ///
+    /// Always: a `Fault` with this message.
     pub fn fault<T>(&self, message: &'static str) -> Result<T, ProjectError> {
         Err(ProjectError::Fault(ProjectFault {
             place: self.place(),
@@ -95,6 +100,10 @@ impl<'a> Parts<'a> {
     }
 
     /// The next lexeme, which is a name.
+    ///
+    /// # Errors
+    ///
+    /// A `Fault` with this message, if the next lexeme is no name.
     pub fn name(&mut self, message: &'static str) -> Result<&'a [u8], ProjectError> {
         match self.peek() {
             Some(token) if matches!(token.kind, Kind::Identifier) => {

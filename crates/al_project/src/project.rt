@@ -20,6 +20,7 @@ pub struct Project {
 }
 
 impl Project {
+    /// A project that says nothing.
     pub fn new(alloc: Global) -> Project {
         Project {
             source_dirs: None,
@@ -30,7 +31,7 @@ impl Project {
     }
 }
 
-/// What is wrong with a project file, and where.
+/// What is wrong with a project file, and its place.
 #[derive(Clone, Copy)]
 pub struct ProjectFault {
     pub place: Place,

@@ -10,6 +10,10 @@ use al_session_stream::{Device, Sink, emit, emit_number};
 
 /// Writes diagnostics of these files, which are in these folders, each with its notes behind it; then how many errors there are, and how
 /// many units weren't checked for them.
+///
+/// # Errors
+///
+/// As for [`emit`].
 pub fn emit_report<K: Sink>(
     so_far: Result<(), Device>,
     writer: &mut K,

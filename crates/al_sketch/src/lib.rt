@@ -1,7 +1,6 @@
-//! What a source of Ada looks like to a reader who doesn't ask whether it is right: its lexemes, what it declares, and what its
-//! context clauses name.
+//! What a source of Ada looks like to a reader who doesn't ask whether it is right: its lexemes, what it declares, and what its context clauses name.
 //!
-//! A sketch is had of every source, of a faulty one too, and decides nothing: it serves notes alone.
+//! Every source has a sketch, with errors or without. It decides nothing: it is only for notes.
 #![tactic(auto)]
 
 mod cursor;

@@ -23,6 +23,10 @@ const NOTHING: (usize, usize) = (0, 0);
 
 impl Scan {
     /// The scopes and the declarations of a source whose lexemes are known.
+    ///
+    /// # Errors
+    ///
+    /// `AllocError` if memory runs out.
     pub fn over(alloc: Global, sketch: &Sketch) -> Result<(Vec<Scope>, Vec<Declared>), AllocError> {
         let mut scan = Scan {
             scopes: Vec::new(alloc),

@@ -48,7 +48,7 @@ impl Drop for Chart {
     }
 }
 
-// The kind of what a task is doing; none where it has ended.
+// The kind of what a task is doing; `None` if it has ended.
 fn kind_of(look: &TaskLook) -> u8 {
     match look.state {
         TaskState::Running => {

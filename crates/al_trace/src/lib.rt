@@ -1,7 +1,7 @@
-//! What a program did, as a trace: which task ran, was ready, was delayed or waited, inside which protected object and with which
-//! priority, event by event. A trace is written as text, as a value change dump, as trace events in JSON, or as a chart.
+//! A trace of what a program did: which task ran, was ready, was delayed or waited, inside which protected object and with which priority, event by
+//! event. A trace is written as text, as a value change dump, as trace events in JSON, or as a chart.
 //!
-//! - [`Trace`] looks on at a run (`World::watched_run_on`) and writes a row for each change; the run is the same without it.
+//! - [`Trace`] watches a run (`World::watched_run_on`) and writes a row for each change; the run is the same without it.
 //! - The ending of a file's name gives the [`TraceFormat`].
 #![tactic(auto)]
 

@@ -42,7 +42,7 @@ impl Moment {
         }
     }
 
-    /// In nanoseconds from the start, where the processor carries out n instructions in a millisecond.
+    /// In nanoseconds from the start, if the processor carries out n instructions in a millisecond.
     pub fn nanos(self, n: u64) -> u64
         ensures { result ≡ nanos_of n self }
     {
@@ -50,7 +50,7 @@ impl Moment {
         self.ticks.saturating_mul(1_000_000).saturating_add(part)
     }
 
-    /// In instructions from the start, where the processor carries out n of them in a millisecond.
+    /// In instructions from the start, if the processor carries out n of them in a millisecond.
     pub fn slot(self, n: u64) -> u64
         ensures { result ≡ slot_of n self }
     {

@@ -55,6 +55,10 @@ fn copies(alloc: Global, objects: &[ImageObject]) -> Result<Vec<ImageObject>, No
 impl Names {
     /// Of an image: each task begins at the place that the instruction names which creates it, in the order of these; and an object is
     /// entered first in the code of its body.
+    ///
+    /// # Errors
+    ///
+    /// `NoMemory` if memory runs out.
     pub fn new(alloc: Global, image: &Image) -> Result<Names, NoMemory> {
         let objects = copies(alloc, image.objects())?;
         let mut tasks = Vec::new(alloc);
@@ -106,7 +110,7 @@ pub(crate) fn number_of(index: usize) -> u32 {
     u32::try_from(index).unwrap_or(u32::MAX)
 }
 
-// Finds where tasks begin, and where objects are entered first.
+// Finds the places at which tasks begin, and those at which objects are entered first.
 fn find(
     alloc: Global,
     image: &Image,
@@ -180,7 +184,7 @@ pub fn unit_word(unit: Option<&ImageObject>) -> &str {
     }
 }
 
-// Bytes as text; names have letters, digits, underlines and dots alone.
+// Bytes as text. Names have only letters, digits, underlines and dots.
 fn text_of(bytes: &[u8]) -> &str {
     match std::str::from_utf8(bytes) {
         Ok(text) => text,
@@ -189,6 +193,10 @@ fn text_of(bytes: &[u8]) -> &str {
 }
 
 /// Where in the sources: FILE:LINE, or the file alone if the line isn't known.
+///
+/// # Errors
+///
+/// `AllocError` if memory runs out.
 pub fn push_source(
     out: &mut String,
     unit: Option<&ImageObject>,
@@ -217,6 +225,10 @@ fn push_file(out: &mut String, unit: Option<&ImageObject>) -> Result<(), AllocEr
 }
 
 /// A name without dots, which part the names of scopes.
+///
+/// # Errors
+///
+/// `AllocError` if memory runs out.
 pub fn push_flat(out: &mut String, name: &str) -> Result<(), AllocError> {
     for letter in name.chars() {
         match letter {

@@ -3,7 +3,7 @@ use crate::chart::{COLUMNS, Chart, DELAYED, INSIDE, READY, RUNNING, STARTING, WA
 use crate::names::{Names, number_of, unit_word};
 use std::alloc::AllocError;
 
-// Where the bars begin, from the left and from above, how high a row is, and how high a bar in it.
+// The places of the bars, from the left and from above, the height of a row, and that of a bar in it.
 const LEFT: usize = 190;
 
 const TOP: usize = 44;
@@ -15,10 +15,10 @@ const BAR: usize = 20;
 // How long the legend is.
 const LEGEND: usize = 740;
 
-// At least so many columns lie between two lines of the grid.
+// The smallest number of columns between two lines of the grid.
 const GRID: u64 = 60;
 
-// The kinds with their classes and names, from above to below where a stretch has several.
+// The kinds with their classes and names, from above to below if a stretch has several.
 const KINDS: [(u8, &str, &str); 6] = [
     (INSIDE, "i", "inside an object"),
     (RUNNING, "r", "running"),
@@ -31,7 +31,7 @@ const KINDS: [(u8, &str, &str); 6] = [
 const STYLE: &str =
     "<style>text{font:12px system-ui,sans-serif;fill:#222}.m{fill:#666}.t{font-weight:600}.g{stroke:#ddd}.l{stroke:#bbb}.i{fill:#d55e00}.r{fill:#0072b2}.y{fill:#e6c229}.w{fill:#cc79a7}.d{fill:#d9e2ec}.s{fill:#eee}</style>\n";
 
-/// The head of a chart of so many tasks, up to the legend.
+/// The head of a chart, up to the legend.
 pub(crate) fn push_opening(
     out: &mut String,
     names: &Names,
@@ -98,7 +98,7 @@ fn grid_of(chart: &Chart, n: u64) -> u64 {
     ticks
 }
 
-/// The lines of the grid with their moments, below the rows of so many tasks.
+/// The lines of the grid with their moments, below the rows of tasks.
 pub(crate) fn push_grid(
     out: &mut String,
     chart: &Chart,

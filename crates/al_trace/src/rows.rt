@@ -6,13 +6,13 @@ use crate::moment::Moment;
 use al_link_image::ImageObject;
 use al_tasks::{TaskLook, TaskState};
 
-/// A task after an event that changed what it is doing, beside what it did before; none where it was just created.
+/// A task after an event that changed what it is doing, and what it did before; `None` if it was just created.
 #[derive(Clone, Copy)]
 pub(crate) struct Row<'a> {
     pub(crate) moment: Moment,
     pub(crate) before: Option<TaskLook>,
     pub(crate) now: TaskLook,
-    /// Where the task is: the unit, and the line of its source.
+    /// The task's place: the unit, and the line of its source.
     pub(crate) unit: Option<&'a ImageObject>,
     pub(crate) line: Option<u32>,
 }

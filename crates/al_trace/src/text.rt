@@ -1,4 +1,4 @@
-// Traces as text: a line a change, `EVENTS TICKS WHAT`.
+// Traces as text: a line for each change, `EVENTS TICKS WHAT`.
 ghost use Rattle.std.specs.Prelude.{◌≡◌, ◌++◌, OnOk, string_bytes};
 ghost use Rattle.al_trace.specs.Texts.{moment_text, tick_line, until_text, inside_text, doing_text, end_text, end_line};
 

@@ -159,7 +159,7 @@ impl Rows {
         }
     }
 
-    // The time of a value change dump, where it is another one than before.
+    // The time of a value change dump, if it differs from the one before.
     fn push_time(&mut self) -> Result<(), AllocError> {
         let nanos = self.time();
         if nanos == self.nanos {
@@ -184,7 +184,7 @@ impl Rows {
         }
     }
 
-    // What comes before the rows, and what tasks are doing where these begin.
+    // What is before the rows, and what tasks are doing when these begin.
     fn open(&mut self, world: &World) -> Result<(), AllocError> {
         self.is_open = true;
         match self.format {
