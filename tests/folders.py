@@ -425,6 +425,7 @@ LINES = (
     ("procedure M is begin -- é".encode() + b"\n   Foo; end M;", b"m.adb:2:4: error: E401 not visible\n   Foo; end M;\n   ^\nnote: Foo is declared in none of the units that can be seen here\n1 error\n"),
     (b"procedure M is begin \x1b[31m null; end M;\n", b"m.adb:1:22: error: E001 illegal character\nprocedure M is begin ^[[31m null; end M;\n                     ^\nnote: no lexeme of Ada begins with this character (ARM 2.1)\n1 error\n"),
     (b"procedure M is begin null; \x00 end M;\n", b"m.adb:1:28: error: E001 illegal character\nprocedure M is begin null; ^@ end M;\n                           ^\nnote: no lexeme of Ada begins with this character (ARM 2.1)\n1 error\n"),
+    (b"procedure M is begin null; end M;\n\x1a", b"m.adb:2:1: error: E001 illegal character\n^Z\n^\nnote: here is a Ctrl-Z: a source ends with its last line\n1 error\n"),
 )
 
 
@@ -502,6 +503,49 @@ def run_ended_lines(program, count):
         count.check("the folder of an exception", sub.stderr, b"\nraised constraint_error, " + folder.encode() + b"/m.adb:6\n")
 
 
+def run_watched_lines(program, count):
+    """What a watch prints on which output, and lines that no person writes."""
+    with tempfile.TemporaryDirectory() as folder:
+        put(pathlib.Path(folder) / "hello.adb", HELLO)
+        built, again = b"checked 1 of 1 units, image made, 0 ms\n", b"checked 0 of 1 units, image as before, 0 ms\n"
+        words = b"the words are run, order, obsolete and quit, and an empty line builds\n"
+        for given, output, told in (
+            (b"obsolete\norder\n", b"body of hello\n", b"no unit is obsolete\n" + again),
+            (b"\xff\xfe\n\0\nrun\n", b"hi\n", words * 2 + again),
+            (b"x" * 2_000_000 + b"\n", b"", words),
+            (b"run", b"hi\n", again),
+        ):
+            got = subprocess.run([program, "--watch", "hello"], cwd=folder, input=given, capture_output=True)
+            count.check(f"a watch of {given[:20]!r}", (got.returncode, got.stdout, settled(got.stderr)), (0, output, built + told))
+
+
+def run_written(program, count):
+    """What a program put out is let go once it is written; an output that nobody reads any more is reported."""
+    with tempfile.TemporaryDirectory() as folder:
+        line = "0123456789" * 10
+        put(pathlib.Path(folder) / "main.adb", f'with Ada.Text_IO;\nprocedure Main is\nbegin\n   loop\n      Ada.Text_IO.Put_Line ("{line}");\n   end loop;\nend Main;\n'.encode())
+        with subprocess.Popen([program, "--run", "main"], cwd=folder, stdout=subprocess.PIPE, stderr=subprocess.PIPE) as writer:
+            size = 0
+            while size < 100_000_000 and (some := os.read(writer.stdout.fileno(), 1 << 20)):
+                size += len(some)
+            most = re.search(r"VmHWM:\s+(\d+) kB", pathlib.Path(f"/proc/{writer.pid}/status").read_text())
+            count.check(f"100 MB put out, with at most {most[1]} kB held", int(most[1]) < 50_000, True)
+            writer.stdout.close()
+            count.check("a pipe that nobody reads", (writer.stderr.read(), writer.wait(PATIENCE)), (b"error: the standard output can't be written\n", 1))
+
+
+def run_numerous(program, count):
+    """10,000 files of which one is needed, and all of them."""
+    with tempfile.TemporaryDirectory() as folder:
+        room = pathlib.Path(folder)
+        put(room / "hello.adb", HELLO)
+        for n in range(10_000):
+            put(room / f"p{n}.ads", b"")
+        count.check("one of 10,000 files", run(program, ["--run", "hello"], cwd=folder), (0, b"hi\n", b""))
+        status, output, told = run(program, ["--run", "--all", "hello"], cwd=folder)
+        count.check("all of 10,000 files", (status, output, re.sub(rb"p\d+", b"p", told)), (1, b"", b"error: p.ads can't be taken: there are more than 4096 sources\n"))
+
+
 def are_among(lines, others):
     """Whether these lines are some of those, in their order."""
     rest = iter(others)
@@ -575,6 +619,9 @@ def main():
     run_images(program, count)
     run_closure(program, count)
     run_ended_lines(program, count)
+    run_watched_lines(program, count)
+    run_written(program, count)
+    run_numerous(program, count)
     run_refused(program, count)
     print(f"{count.passed} passed, {count.failed} failed")
     return count.failed != 0
