@@ -12,7 +12,6 @@ pub enum Part {
 }
 
 /// The rules of [`RULES`], read.
-#[derive(Drop)]
 pub struct Grammar {
     alloc: Global,
     lexemes: Vec<&'static str>,
@@ -22,6 +21,18 @@ pub struct Grammar {
     firsts: Vec<Vec<bool>>,
     /// Of each rule whether it may be empty.
     empties: Vec<bool>,
+}
+
+impl Drop for Grammar {
+    fn drop(self) {
+        let Grammar {
+            alloc: _,
+            lexemes: _,
+            rules: _,
+            firsts: _,
+            empties: _,
+        } = self;
+    }
 }
 
 // The number of the rule of that name.

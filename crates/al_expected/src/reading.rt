@@ -4,12 +4,20 @@ use al_sketch::{LexemeKind, Sketch};
 use std::alloc::{AllocError, Global};
 
 /// The lexeme at which a source leaves the rules, and which lexemes are possible there.
-#[derive(Drop)]
 pub struct Wanted {
     /// The lexeme; how many there are, if the source ends too soon.
     pub fault: usize,
     /// Which lexemes are possible there, by the numbers of the grammar.
     pub lexemes: Vec<bool>,
+}
+
+impl Drop for Wanted {
+    fn drop(self) {
+        let Wanted {
+            fault: _,
+            lexemes: _,
+        } = self;
+    }
 }
 
 /// At which lexeme a source leaves the rules, and which lexemes are possible there; none if it doesn't.

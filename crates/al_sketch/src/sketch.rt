@@ -7,12 +7,22 @@ use crate::scope::Scope;
 use std::alloc::{AllocError, Global};
 
 /// A source with its lexemes and its declarations.
-#[derive(Drop)]
 pub struct Sketch {
     text: Vec<u8>,
     lexemes: Vec<Lexeme>,
     scopes: Vec<Scope>,
     declared: Vec<Declared>,
+}
+
+impl Drop for Sketch {
+    fn drop(self) {
+        let Sketch {
+            text: _,
+            lexemes: _,
+            scopes: _,
+            declared: _,
+        } = self;
+    }
 }
 
 fn lexemes_of(alloc: Global, text: &[u8]) -> Result<Vec<Lexeme>, AllocError> {
@@ -40,18 +50,16 @@ impl Sketch {
     pub fn of(alloc: Global, text: &[u8]) -> Result<Sketch, AllocError> {
         let lexemes = lexemes_of(alloc, text)?;
         let text = Vec::from_slice(alloc, text)?;
-        let bare = Sketch {
+        let mut sketch = Sketch {
             text,
             lexemes,
             scopes: Vec::new(alloc),
             declared: Vec::new(alloc),
         };
-        let (scopes, declared) = Scan::over(alloc, &bare)?;
-        Ok(Sketch {
-            scopes,
-            declared,
-            ..bare
-        })
+        let (scopes, declared) = Scan::over(alloc, &sketch)?;
+        sketch.scopes = scopes;
+        sketch.declared = declared;
+        Ok(sketch)
     }
 
     /// How many lexemes there are.
