@@ -38,7 +38,7 @@ is_moved lib checked old new u = has_unit checked u || (is_some (settled_at old 
 abbrev pub is_left : Library → List UnitKey → UnitKey → Bool
 is_left lib checked u = is_there lib u && not (has_unit checked u)
 
--- How many stored answers a build compared, to 2^64-1: at most those to questions of units that moved, in the entries as it
+-- How many stored answers a build compared, to 2^64-1: at most those to the look-ups in units that moved, in the entries as it
 -- began, and at least those of them that are in entries which it neither writes nor drops.
 pub record IsWithin (lib : Library) (checked : List UnitKey) (old new : Entries) (compared : ℕ) : Type 0 where
   pub most : ℕ

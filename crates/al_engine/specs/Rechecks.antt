@@ -69,7 +69,7 @@ pub record IsUpdated (meaning : TextMeaning) (header : List ℕ → Header) (pre
   pub staying : (u : UnitKey) → will_be new u ≡ staying lib (settled_at old) (now_at new) u
   -- the marks of now say which stored answers differ from those of now
   pub marks : MarksFollow predefined new
-  -- the number of stored answers that were compared: those to questions of units that moved
+  -- the number of stored answers that were compared: those to look-ups in units that moved
   pub compared : IsCompared new count
   -- an entry was made of each unit that was checked, and of no other
   pub made : (u : UnitKey) → Contains checked u ↔ (is_some (state new u).made ≡ true)

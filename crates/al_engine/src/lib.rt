@@ -1,9 +1,8 @@
 //! A library of compilation units: its files are edited and built again and again. A build checks again only what an edit reaches, and links what the
 //! checks give. All of this is for every checker of units (`UnitCheck`) and every way of reading files ([`ReadFiles`]).
 //!
-//! - An *entry* of a unit has the source that was checked, the *questions* that the check asked of other units with their *answers*, and the result.
-//!   The *reads law* says that the check gives this result whenever the questions have these answers. A *mark* at a stored answer says that it isn't
-//!   the answer now.
+//! - An *entry* of a unit has the source that was checked, the look-ups of the check with their *answers*, and the result. The *reads law* says that
+//!   the check gives this result whenever the look-ups have these answers. A *mark* at a stored answer says that it isn't the answer now.
 //! - A unit is *sound* if no error was found in it. A build *reaches* a unit that breaks no rule of the graph and depends only on sound units. A unit
 //!   *moved* if the build made an entry of it, or if it is reached now and wasn't before, or the other way round.
 //! - A build ends by *settling* its entries; then they are those of the last build. It can be *cancelled* before, and then everything is as the last

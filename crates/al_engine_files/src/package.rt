@@ -12,7 +12,7 @@ use al_view::{Interface, Seq, Symbol, View, ViewKind};
 use al_view_predefined::predefined_package;
 use std::alloc::Global;
 
-/// A predefined package, and its answers to questions.
+/// A predefined package, and its answers to look-ups.
 pub(crate) struct Package {
     pub unit: UnitKey,
     pub interface: UnitInterface,

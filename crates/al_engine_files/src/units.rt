@@ -12,7 +12,7 @@ use al_view::{Seq, is_unit};
 use std::alloc::Global;
 use std::marker::Model;
 
-/// The packages Standard, Ada, `Ada.Text_IO` and `Ada.Real_Time`, with their answers to questions. All values of the type give the same answers.
+/// The packages Standard, Ada, `Ada.Text_IO` and `Ada.Real_Time`, with their answers to look-ups. All values of the type give the same answers.
 pub struct PredefinedUnits {
     alloc: Global,
     all: Seq<Package>,
