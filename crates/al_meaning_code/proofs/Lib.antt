@@ -1,0 +1,14 @@
+mod Memories
+mod Machines
+mod Effects
+mod Standing
+mod Operators
+mod Plain
+mod Expressions
+mod Values
+mod InImages
+mod CallSteps
+mod Meant
+mod Marked
+mod Unmarked
+mod Statements

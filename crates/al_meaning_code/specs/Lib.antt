@@ -1,0 +1,5 @@
+pub mod Running
+pub mod Standing
+pub mod Showing
+pub mod Subset
+pub mod Effects

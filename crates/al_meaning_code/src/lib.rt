@@ -1,0 +1,2 @@
+//! The code of labelled units does what they mean.
+#![tactic(auto)]
