@@ -15,7 +15,7 @@ use Rattle.al_view_typed.specs.UnitTrees.{BodyTree, ElaborationTree, UnitTree}
 use Rattle.al_meaning.specs.Scalars.{ProgramError, Meaningless}
 use Rattle.al_meaning.specs.States.{State, Outcome, Gives, Raises, GoesOn, Act, ◌>>=◌, ◌>>◌, give, raise, at_line, Words, fetched, with_words}
 use Rattle.al_meaning.specs.Expressions.{Calls}
-use Rattle.al_meaning.specs.Statements.{Flow, Returns, elaborated}
+use Rattle.al_meaning.specs.Statements.{Flow, On, Exits, Returns, elaborated}
 
 -- ---- bodies
 
@@ -55,11 +55,13 @@ formals_back depth (f ∷ fs) = do
   more ← formals_back depth fs
   give (vs ++ more)
 
--- a function that runs past its end raises Program_Error (ARM 6.5(20))
+-- a function that runs past its end raises Program_Error (ARM 6.5(20)); no exit leaves a body (ARM 5.7(4))
 abbrev pub given_back : UnitKey → BodyTree → BodyKind → Flow → Act Words
-given_back unit b (kinds.Procedure n) f = formals_back b.depth b.formals
+given_back unit b kind (Exits loops) = raise Meaningless
+given_back unit b (kinds.Procedure n) On = formals_back b.depth b.formals
+given_back unit b (kinds.Procedure n) (Returns vs) = formals_back b.depth b.formals
+given_back unit b (kinds.Function words end) On = at_line unit end (raise ProgramError)
 given_back unit b (kinds.Function words end) (Returns vs) = give vs
-given_back unit b (kinds.Function words end) f = at_line unit end (raise ProgramError)
 given_back unit b _ f = raise Meaningless
 
 abbrev pub body_called : Calls → ℕ → UnitKey → BodyTree → Words → Act Words
@@ -87,11 +89,16 @@ calls_of us (suc n) symbol vs = found_body (calls_of us n) (suc n) (body_of us s
 abbrev pub start : State
 start = record { words = λ p. pos 0; elaborated = λ p. false; output = [] }
 
+-- no exit and no return leaves the statements of a package
+abbrev pub through : Flow → Act (Unit {0})
+through On = give tt
+through f = raise Meaningless
+
 abbrev pub item_elaborated : List UnitTree → ℕ → UnitTree → Option ElaborationTree → Act (Unit {0})
 item_elaborated us n u None = give tt
 item_elaborated us n u (Some e) = do
-  elaborated (calls_of us n) u.unit 1 n e
-  give tt
+  f ← elaborated (calls_of us n) u.unit 1 n e
+  through f
 
 abbrev pub items_elaborated : List UnitTree → ℕ → List UnitTree → Act (Unit {0})
 items_elaborated us n [] = give tt

@@ -12,3 +12,5 @@ mod Meant
 mod Marked
 mod Unmarked
 mod Statements
+mod Given
+mod Calls

@@ -3,3 +3,4 @@ pub mod Standing
 pub mod Showing
 pub mod Subset
 pub mod Effects
+pub mod Laws
