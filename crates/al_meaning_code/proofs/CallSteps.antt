@@ -84,7 +84,10 @@ module _ (m : Machine) (w : IsWithin m) where
       let fits : (m.top + 3) + words ≤ length all = omega arith in
       let total = length-zeroed all (m.top + 3) words fits in
       record {
-        first = refl; frame = refl; top = refl; long = total ∙ len;
+        first = refl;
+        frame = refl;
+        top = refl;
+        long = total ∙ len;
         kept = λ k h. zeroed_apart all (m.top + 3) words k fits (inl (omega arith))
             ∙ (let n : k ≢ m.top + 2 = omega arith in get_or-set_other (set base (m.top + 1) (pos m.frame)) (m.top + 2) k (pos next) (pos 0) n)
             ∙ (let n : k ≢ m.top + 1 = omega arith in get_or-set_other base (m.top + 1) k (pos m.frame) (pos 0) n)
@@ -112,9 +115,15 @@ module _ (m : Machine) (w : IsWithin m) where
       let own1 : nat_le n.first m.frame ≡ true = grind (arith, nat_tests) in
       let own2 : nat_lt m.frame (n.first + 16384) ≡ true = grind (arith, nat_tests) in
       let le : nat_le m.frame (n.frame + 0) ≡ true = grind (arith, nat_tests) in
-      let z = record n { memory = copied n.memory (n.top - 0) 0 n.frame; frame = m.frame; top = n.frame + 0 } in
-      (z, rw (e1, e2, c, r, own1, own2, le) refl, first, refl, omega arith, length-copied n.memory (n.top - 0) 0 n.frame (omega arith) (omega arith) ∙ long,
-      λ k. copied_apart n.memory (n.top - 0) 0 n.frame k (omega arith) (omega arith) (either_side k n.frame))
+      let z = record n { memory = copied n.memory (n.top - 0) 0 n.frame; frame = m.frame; top = n.frame + 0 } in (
+        z,
+        rw (e1, e2, c, r, own1, own2, le) refl,
+        first,
+        refl,
+        omega arith,
+        length-copied n.memory (n.top - 0) 0 n.frame (omega arith) (omega arith) ∙ long,
+        λ k. copied_apart n.memory (n.top - 0) 0 n.frame k (omega arith) (omega arith) (either_side k n.frame),
+      )
     where
       either_side : (k f : ℕ) → (k < f) ⊎ (f + 0 ≤ k)
       either_side k f = grind arith

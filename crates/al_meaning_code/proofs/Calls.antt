@@ -11,7 +11,8 @@ use Rattle.al_view.specs.declared.symbol.Symbol.{Symbol}
 use Rattle.al_view.specs.declared.view.ObjectPlace.{ObjectPlace}
 use Rattle.al_view.specs.declared.view.ObjectPlace.TheVariants as places
 use Rattle.al_view_typed.specs.declared.unit.BodyKind.TheVariants as kinds
-use Rattle.al_view_typed.specs.StatementTrees.{StatementTree, StatementsTree}
+use Rattle.al_view_typed.specs.ExpressionTrees.{CallTree}
+use Rattle.al_view_typed.specs.StatementTrees.{StatementTree}
 use Rattle.al_view_typed.specs.StatementViews.{statements_of}
 use Rattle.al_view_typed.specs.UnitTrees.{BodyTree, UnitTree}
 use Rattle.al_instr.specs.declared.instruction.Instr.{Instr}
@@ -54,7 +55,7 @@ use Rattle.al_meaning_code.specs.Standing.{Stands, AreMarked}
 use Rattle.al_meaning_code.specs.Showing.{Linked, Reaches, Shows, Near}
 use Rattle.al_meaning_code.specs.Subset.{AreIn}
 use Rattle.al_meaning_code.specs.Effects.{table_line, line_or, RaisesAt, Reaching, Runs, CallRuns}
-use Rattle.al_meaning_code.specs.Laws.{Setting, Among, IsLaidOut, procedure, call_of, SeenInside, CallsAreDone}
+use Rattle.al_meaning_code.specs.Laws.{procedure, SeenInside}
 use Rattle.al_meaning_code.proofs.Machines.{leads_on, stays, traps_after, goes, fails, carried_on, size_cons, size-append}
 use Rattle.al_meaning_code.proofs.Standing.{stands_front, stands_back, opened, size-closed, inner}
 use Rattle.al_meaning_code.proofs.Marked.{marked_front, marked_opened}
@@ -63,43 +64,42 @@ use Rattle.al_meaning_code.proofs.Statements.{statements_do}
 use Rattle.al_meaning_code.proofs.CallSteps.{Framed, rooted_machine, called_machine, entered_machine, roots, roots_not, calls, enters, enters_not, framed_so, returns}
 
 -- where the words of the callee lie
-abbrev callee_address : ℕ → (ObjectPlace → ℕ) → ObjectPlace → ℕ
+abbrev pub callee_address : ℕ → (ObjectPlace → ℕ) → ObjectPlace → ℕ
 callee_address frame address (places.Frame d w) = frame + w
 callee_address frame address (places.Static s w) = address (places.Static s w)
 
 -- what a call comes to when the statements of the body have ended
-abbrev finish : UnitKey → BodyTree → State → Outcome Flow → Outcome Words
+abbrev pub finish : UnitKey → BodyTree → State → Outcome Flow → Outcome Words
 finish unit b st o = next (ended_in b.depth st (next o (λ f. given_back unit b b.kind f))) (λ back. give back)
 
 inside_one : (d : ℕ) → 1 ≤ d → nat_le 1 d ≡ true
 inside_one d h = grind (arith, nat_tests)
 
-module _ (objects : List Region) (inside : List Entered) (code : List Step) (lines : Lines) (linked : LinkSymbol → Instr → Instr) (depth floor room words : ℕ) (V : ObjectPlace → Type 0) (address : ObjectPlace → ℕ)
+module _ (objects : List Region) (inside : List Entered) (code : List Step) (lines : Lines) (linked : LinkSymbol → Instr → Instr) (depth floor small room words most : ℕ) (V : ObjectPlace → Type 0) (address : ObjectPlace → ℕ) (C : CallTree → Type 0)
     (below : (p : ObjectPlace) → V p → address p < floor) (opened_ : (p : ObjectPlace) → V p → is_open objects inside 0 (address p) 1 ≡ true)
     (apart : (p q : ObjectPlace) → V p → V q → same_place p q ≡ false → address p ≢ address q) (alike : (p q : ObjectPlace) → V p → V q → same_place p q ≡ true → address p ≡ address q)
-    (nested : (d w : ℕ) → V (places.Frame d w) → 1 ≤ d) (tell : TreesTellCode) where
-
+    (nested : (d w : ℕ) → V (places.Frame d w) → 1 ≤ d) (free : (k : ℕ) → floor ≤ k → is_open objects inside 0 k 1 ≡ true) (tell : TreesTellCode) (roomy : small ≤ room) (fit : 3 + words + room ≤ most) where
   abbrev Caller : State → Machine → Type 0
   Caller st m = Shows linked depth floor V address st.words m
 
   -- ---- what the callee's variables keep
 
-  module _ (m : Machine) (w : IsWithin m) (above : floor ≤ m.top) (free : (k : ℕ) → m.first ≤ k → is_open objects inside 0 k 1 ≡ true) where
+  module _ (m : Machine) (w : IsWithin m) (above : floor ≤ m.top) where
     abbrev place_of : ObjectPlace → ℕ
     place_of = callee_address m.top address
 
     abbrev Mine : ObjectPlace → Type 0
-    Mine = SeenInside V words
+    Mine = SeenInside (λ x k. V (places.Static x k)) words
 
-    below_ : (p : ObjectPlace) → Mine p → place_of p < m.top + 3 + words
+    pub below_ : (p : ObjectPlace) → Mine p → place_of p < m.top + 3 + words
     below_ (places.Frame d k) h = let a = h.2 in omega arith
     below_ (places.Static s k) h = let b = below (places.Static s k) h in omega arith
 
-    open_ : (p : ObjectPlace) → Mine p → is_open objects inside 0 (place_of p) 1 ≡ true
-    open_ (places.Frame d k) h = free (m.top + k) (let f = w.frame in let s = w.stack in omega arith)
+    pub open_ : (p : ObjectPlace) → Mine p → is_open objects inside 0 (place_of p) 1 ≡ true
+    open_ (places.Frame d k) h = free (m.top + k) (omega arith)
     open_ (places.Static s k) h = opened_ (places.Static s k) h
 
-    apart_ : (p q : ObjectPlace) → Mine p → Mine q → same_place p q ≡ false → place_of p ≢ place_of q
+    pub apart_ : (p q : ObjectPlace) → Mine p → Mine q → same_place p q ≡ false → place_of p ≢ place_of q
     apart_ (places.Frame d k) (places.Frame e j) h i diff = λ same.
         let k_is : k ≡ j = omega (arith, same) in
         let d_is : d ≡ e = h.0 ∙ sym i.0 in
@@ -110,7 +110,7 @@ module _ (objects : List Region) (inside : List Entered) (code : List Step) (lin
     apart_ (places.Static s k) (places.Frame e j) h i diff = λ same. let b = below (places.Static s k) h in absurd (omega (arith, same))
     apart_ (places.Static s k) (places.Static t j) h i diff = apart (places.Static s k) (places.Static t j) h i diff
 
-    alike_ : (p q : ObjectPlace) → Mine p → Mine q → same_place p q ≡ true → place_of p ≡ place_of q
+    pub alike_ : (p q : ObjectPlace) → Mine p → Mine q → same_place p q ≡ true → place_of p ≡ place_of q
     alike_ (places.Frame d k) (places.Frame e j) h i same = let k_is : k ≡ j = grind (arith, nat_tests) in omega arith
     alike_ (places.Frame d k) (places.Static s j) h i same = absurd (cc)
     alike_ (places.Static s k) (places.Frame e j) h i same = absurd (cc)
@@ -158,13 +158,13 @@ module _ (objects : List Region) (inside : List Entered) (code : List Step) (lin
 
   -- ---- the call
 
-  module _ (unit : UnitKey) (symbol : Symbol) (first : ℕ) (statements : List StatementTree) (deeper : Calls) (line : UnitKey × ℕ) (st : State) (ends : Target → ℕ) (pc pc1 back place start after before fuel : ℕ) (fits : AreIn (SeenInside V words) room (statements_of statements)) (m : Machine) (s : Shows linked depth floor V address st.words m)
-      (free : (k : ℕ) → m.first ≤ k → is_open objects inside 0 k 1 ≡ true)
+  module _ (unit : UnitKey) (symbol : Symbol) (first : ℕ) (statements : List StatementTree) (deeper : Calls) (line : UnitKey × ℕ) (st : State) (ends : Target → ℕ) (pc pc1 back place start after before fuel : ℕ) (fits : AreIn (SeenInside (λ x k. V (places.Static x k)) words) C small (statements_of statements)) (m : Machine) (s : Shows linked depth floor V address st.words m)
       (root_here : fetch code pc ≡ Some (operation.Word kind.Root, pc1)) (call_here : fetch code pc1 ≡ Some (operation.Word (kind.Call place 0), back)) (there : IsThere code back)
       (enter_here : fetch code place ≡ Some (operation.Word (kind.Enter words), start)) (body : Stands code linked ends start (statements_code (within_depth 1) (statements_of statements))) (home : ends target.Routine ≡ start + size (statements_code (within_depth 1) (statements_of statements)))
       (marks : AreMarked lines unit before start (statements_code (within_depth 1) (statements_of statements)))
-      (return_here : fetch code (start + size (statements_code (within_depth 1) (statements_of statements))) ≡ Some (operation.Word (kind.Return 0), after)) where
-
+      (return_here : fetch code (start + size (statements_code (within_depth 1) (statements_of statements))) ≡ Some (operation.Word (kind.Return 0), after))
+      (calls_do : (line : UnitKey × ℕ) (call : CallTree) → C call → (e : State) (ends : Target → ℕ) (pc : ℕ) (n : Machine) → Shows linked 1 (m.top + 3 + words) (SeenInside (λ x k. V (places.Static x k)) words) (callee_address m.top address) e.words n → Stands code linked ends pc (call_code 1 call)
+      → CallRuns objects inside code lines linked 1 (m.top + 3 + words) room (SeenInside (λ x k. V (places.Static x k)) words) (callee_address m.top address) line (at pc n) n (pc + size (call_code 1 call)) fuel (called deeper call e)) where
     w : IsWithin m
     w = s.within
 
@@ -178,10 +178,10 @@ module _ (objects : List Region) (inside : List Entered) (code : List Step) (lin
     b = procedure symbol first words statements
 
     abbrev shaped : Outcome Flow → Type 0
-    shaped o = CallRuns objects inside code lines linked depth floor (3 + words + room) V address line (at pc m) m back fuel (finish unit b st o)
+    shaped o = CallRuns objects inside code lines linked depth floor most V address line (at pc m) m back (suc fuel) (finish unit b st o)
 
     -- no room
-    lacks_any : Exhausts objects inside code (at pc m) m (3 + words + room) → (o : Outcome Flow) → shaped o
+    lacks_any : Exhausts objects inside code (at pc m) m most → (o : Outcome Flow) → shaped o
     lacks_any lack (Gives On e) = inr lack
     lacks_any lack (Gives (Exits i) e) = tt
     lacks_any lack (Gives (Returns vs) e) = inr lack
@@ -191,25 +191,25 @@ module _ (objects : List Region) (inside : List Entered) (code : List Step) (lin
     lacks_any lack (GoesOn e) = inr lack
 
     short_frame : (a : At) → Leads objects inside code (at pc m) a → Traps objects inside code a a.place (suc a.place) exception.Storage → m.first + 16384 < m.top + 3 + words → (o : Outcome Flow) → shaped o
-    short_frame a l t less o = lacks_any (omega arith, 0, suc a.place, traps_after objects inside code (at pc m) a 0 (suc a.place) a.place (suc a.place) exception.Storage (omega arith) (omega arith) l t) o
+    short_frame a l t less o = lacks_any (omega (arith, fit), 0, suc a.place, traps_after objects inside code (at pc m) a 0 (suc a.place) a.place (suc a.place) exception.Storage (omega arith) (omega arith) l t) o
 
     -- what the statements did, as seen from the call
-    module _ (n : Machine) (l : Leads objects inside code (at pc m) (at start n)) (f : Framed m n back words) where
-      exhausts : Exhausts objects inside code (at start n) n room → Exhausts objects inside code (at pc m) m (3 + words + room)
-      exhausts x = let ft = f.top in let ff = f.first in let y = x.0 in (omega arith, x.1, x.2, traps_after objects inside code (at pc m) (at start n) x.1 x.2 x.1 x.2 exception.Storage (omega arith) (omega arith) l x.3)
+    module _ (n : Machine) (l : Leads objects inside code (at pc m) (at start n)) (some : 1 ≤ l.0) (f : Framed m n back words) where
+      exhausts : Exhausts objects inside code (at start n) n room → Exhausts objects inside code (at pc m) m most
+      exhausts x = let ft = f.top in let ff = f.first in let y = x.0 in (omega (arith, fit), x.1, x.2, traps_after objects inside code (at pc m) (at start n) x.1 x.2 x.1 x.2 exception.Storage (omega arith) (omega arith) l x.3)
 
-      raises : (told : UnitKey × ℕ) (e : Failure) → RaisesAt objects inside code lines room told (at start n) n e → RaisesAt objects inside code lines (3 + words + room) told (at pc m) m e
+      raises : (told : UnitKey × ℕ) (e : Failure) → RaisesAt objects inside code lines room told (at start n) n e → RaisesAt objects inside code lines most told (at pc m) m e
       raises told ConstraintError (inl t) = inl (record { last = t.last; leads = leads_on objects inside code (at pc m) (at start n) t.last l t.leads; next = t.next; instruction = t.instruction; there = t.there; raises = t.raises; told = t.told })
       raises told ConstraintError (inr x) = inr (exhausts x)
       raises told ProgramError (inl t) = inl (record { last = t.last; leads = leads_on objects inside code (at pc m) (at start n) t.last l t.leads; next = t.next; instruction = t.instruction; there = t.there; raises = t.raises; told = t.told })
       raises told ProgramError (inr x) = inr (exhausts x)
       raises told Meaningless x = tt
 
-      not_link : (k : ℕ) → m.top ≤ k → k < m.top + 3 → (p : ObjectPlace) → SeenInside V words p → callee_address m.top address p ≢ k
+      not_link : (k : ℕ) → m.top ≤ k → k < m.top + 3 → (p : ObjectPlace) → SeenInside (λ x k. V (places.Static x k)) words p → callee_address m.top address p ≢ k
       not_link k low high (places.Frame d j) i = λ e. let a = i.1 in absurd (omega (arith, e))
       not_link k low high (places.Static y j) i = λ e. let b = below (places.Static y j) i in let a = s.above in absurd (omega (arith, e))
 
-      comes_back : (e : State) → Reaching objects inside code lines linked 1 (m.top + 3 + words) room (SeenInside V words) (callee_address m.top address) (at start n) end e.words n → Reaching objects inside code lines linked depth floor (3 + words + room) V address (at pc m) back (restored 1 st e).words m
+      comes_back : (e : State) → Reaching objects inside code lines linked 1 (m.top + 3 + words) room (SeenInside (λ x k. V (places.Static x k)) words) (callee_address m.top address) (at start n) end e.words n → Reaching objects inside code lines linked depth floor most V address (at pc m) back (restored 1 st e).words m
       unfolding exec w
       comes_back e x =
           let q = x.0 in let near = x.2 in
@@ -218,11 +218,11 @@ module _ (objects : List Region) (inside : List Entered) (code : List Step) (lin
           let caller = near.kept (m.top + 1) (omega arith) (λ p i. not_link (m.top + 1) (omega arith) (omega arith) p i) ∙ f.caller in
           let return_ = near.kept (m.top + 2) (omega arith) (λ p i. not_link (m.top + 2) (omega arith) (omega arith) p i) ∙ f.return in
           let z = returns m w q back (nf ∙ ff) (nr ∙ fr) (omega arith) (omega arith) (nl ∙ fl) caller return_ in
-          let shown = ended_shows m w s.above free st e n q z.0 back s f near x.3 z.2 z.3 z.4 z.5 z.6 in
+          let shown = ended_shows m w s.above st e n q z.0 back s f near x.3 z.2 z.3 z.4 z.5 z.6 in
           let step : Leads objects inside code (at end q) (at back z.0) = (1, ap (λ (o : Option At). option_and_then (λ (y : At). Some y) o) (ap (λ (o : Option (Operation × ℕ)). advanced_by objects inside code o q) return_here ∙ ap (λ (r : Result (MachineFlow × Machine) Trap). landed code after r) z.1 ∙ ap (λ (o : Option (Operation × ℕ)). landing o back z.0) there.1)) in
           (z.0, leads_on objects inside code (at pc m) (at start n) (at back z.0) l (leads_on objects inside code (at start n) (at end q) (at back z.0) x.1 step), shown.0, shown.1)
 
-      from_body : (o : Outcome Flow) → Runs objects inside code lines linked 1 (m.top + 3 + words) room (SeenInside V words) (callee_address m.top address) (λ k. ends (target.Loop k)) (ends target.Routine) line (at start n) n end fuel o → shaped o
+      from_body : (o : Outcome Flow) → Runs objects inside code lines linked 1 (m.top + 3 + words) room (SeenInside (λ x k. V (places.Static x k)) words) (callee_address m.top address) (λ k. ends (target.Loop k)) (ends target.Routine) line (at start n) n end fuel o → shaped o
       from_body (Gives On e) (inl x) = inl (comes_back e x)
       from_body (Gives On e) (inr x) = inr (exhausts x)
       from_body (Gives (Exits i) e) x = tt
@@ -237,54 +237,21 @@ module _ (objects : List Region) (inside : List Entered) (code : List Step) (lin
     unfolding exec w
     call_runs = ⊎_elim root_room no_room (cases_lt (m.first + 16384) (m.top + 3))
       where
-        o : Outcome Flow
-        o = all_done deeper unit 1 fuel (statements_of statements) (fresh 1 [] st)
-
         no_room : m.top + 3 ≤ m.first + 16384 → shaped (all_done deeper unit 1 fuel (statements_of statements) (fresh 1 [] st))
         no_room room3 =
             let one_ = goes objects inside code pc pc1 kind.Root m (rooted_machine m w) root_here (ap on (roots m w room3)) in
             let two : Leads objects inside code (at pc1 (rooted_machine m w)) (at place (called_machine m w back)) = (1, ap (λ (o : Option At). option_and_then (λ (y : At). Some y) o) (ap (λ (o : Option (Operation × ℕ)). advanced_by objects inside code o (rooted_machine m w)) call_here ∙ ap (λ (r : Result (MachineFlow × Machine) Trap). landed code back r) (calls m w place back room3) ∙ ap (λ (o : Option (Operation × ℕ)). landing o place (called_machine m w back)) enter_here)) in
-            let to_body = leads_on objects inside code (at pc m) (at pc1 (rooted_machine m w)) (at place (called_machine m w back)) one_ two in
+            let to_body : Leads objects inside code (at pc m) (at place (called_machine m w back)) = (one_.0 + 1, carried_on objects inside code one_.0 1 (at pc m) (at pc1 (rooted_machine m w)) one_.1 ∙ two.1) in
             ⊎_elim
             (λ (lack : m.first + 16384 < m.top + 3 + words). short_frame (at place (called_machine m w back)) to_body (fails objects inside code place start (suc place) (kind.Enter words) (called_machine m w back) exception.Storage enter_here (omega arith) (ap on (enters_not m w back words lack))) lack (all_done deeper unit 1 fuel (statements_of statements) (fresh 1 [] st)))
             (λ (fits_ : m.top + 3 + words ≤ m.first + 16384).
-                let n = entered_machine m w back words in
-                let f = framed_so m w back words fits_ in
-                let three = goes objects inside code place start (kind.Enter words) (called_machine m w back) n enter_here (ap on (enters m w back words fits_)) in
-                let l = leads_on objects inside code (at pc m) (at place (called_machine m w back)) (at start n) to_body three in
-                from_body n l f (all_done deeper unit 1 fuel (statements_of statements) (fresh 1 [] st))
-                (statements_do objects inside code linked lines unit (within_depth 1) deeper (m.top + 3 + words) room (SeenInside V words) (callee_address m.top address) (below_ m w s.above free) (open_ m w s.above free) (apart_ m w s.above free) (alike_ m w s.above free) tell fuel (statements_of statements) fits before line (fresh 1 [] st) ends start n (begun_shows m w s.above free st n back s f) body marks))
+            let n = entered_machine m w back words in
+            let f = framed_so m w back words fits_ in
+            let three = goes objects inside code place start (kind.Enter words) (called_machine m w back) n enter_here (ap on (enters m w back words fits_)) in
+            let l : Leads objects inside code (at pc m) (at start n) = (to_body.0 + three.0, carried_on objects inside code to_body.0 three.0 (at pc m) (at place (called_machine m w back)) to_body.1 ∙ three.1) in
+            from_body n l (omega arith) f (all_done deeper unit 1 fuel (statements_of statements) (fresh 1 [] st))
+            (statements_do objects inside code linked lines unit (within_depth 1) deeper (m.top + 3 + words) small room (SeenInside (λ x k. V (places.Static x k)) words) (callee_address m.top address) C (below_ m w s.above) (open_ m w s.above) (apart_ m w s.above) (alike_ m w s.above) tell roomy fuel calls_do (statements_of statements) fits before line (fresh 1 [] st) ends start n (begun_shows m w s.above st n back s f) body marks))
             (cases_lt (m.first + 16384) (m.top + 3 + words))
 
         root_room : m.first + 16384 < m.top + 3 → shaped (all_done deeper unit 1 fuel (statements_of statements) (fresh 1 [] st))
         root_room lack = short_frame (at pc m) (stays objects inside code (at pc m)) (fails objects inside code pc pc1 (suc pc) kind.Root m exception.Storage root_here (omega arith) (ap on (roots_not m w lack))) (omega arith) (all_done deeper unit 1 fuel (statements_of statements) (fresh 1 [] st))
-
--- ---- the law
-
-pub calls_are_done : TreesTellCode → CallsAreDone
-unfolding operation_of plain_operation sized_operation flag_code procedure_code inside_code ending_code copied_code mark_of
-calls_are_done tell c laid us n room line symbol unit first frame statements st ends ends' pc place before m found fits s free stands e stands' marks =
-    let root = instr.Plain plains.Root in
-    let pc1 = pc + size_of root in
-    let sc = link links.Code symbol in
-    let here1 = subst (λ (i : Instr). fetch c.code pc1 ≡ Some (operation_of i, pc1 + size_of i)) e stands.1.0 in
-    let same : size_of (instr.Call place 0) ≡ size_of (instr.Call 0 0) = ap size_of (sym e) ∙ stands.1.1 in
-    let back = pc1 + size_of (instr.Call 0 0) in
-    let call_here = here1 ∙ ap (λ (k : ℕ). Some (operation.Word (kind.Call place 0), pc1 + k)) same in
-    let total : back ≡ pc + size (Whole root ∷ Using (instr.Call 0 0) sc ∷ []) = omega (arith, size_cons (Whole root) (Using (instr.Call 0 0) sc ∷ []), size_cons (Using (instr.Call 0 0) sc) []) in
-    let start = place + size_of (instr.Sized sized.Enter frame) in
-    let cc_ = statements_code (within_depth 1) (statements_of statements) in
-    let ret = Whole (instr.Sized sized.Return 0) ∷ [] in
-    let ending = closed construct.Routine cc_ in
-    let inner_ends = inner c.code c.linked construct.Routine (start + size cc_) ends' in
-    let body = opened c.code c.linked construct.Routine ends' start cc_ (stands_front c.code c.linked ends' start ending ret stands'.1) in
-    let size_is = size-closed construct.Routine cc_ in
-    let ret_here = subst (λ (k : ℕ). fetch c.code (start + k) ≡ Some (operation.Word (kind.Return 0), (start + k) + size_of (instr.Sized sized.Return 0))) size_is (stands_back c.code c.linked ends' start ending ret stands'.1).0 in
-    let begin_ : (place + piece_size (Begins sc)) + piece_size (Whole (instr.Sized sized.Enter frame)) ≡ start = omega arith in
-    let marks_ = subst (λ (k : ℕ). AreMarked c.lines unit first k (ending ++ ret)) begin_ marks.1.1 in
-    let body_marks = marked_opened c.lines unit construct.Routine first start cc_ (marked_front c.lines unit first start ending ret marks_) in
-    let b = procedure symbol first frame statements in
-    let ran = call_runs c.objects c.inside c.code c.lines c.linked c.depth c.floor room frame (Among c) c.address laid.below laid.opens laid.apart laid.alike laid.nested tell
-        unit symbol first statements (calls_of us n) line st inner_ends pc pc1 back place start ((start + size cc_) + size_of (instr.Sized sized.Return 0)) first (suc n) fits m s free stands.0 call_here stands.1.2 stands'.0 body refl body_marks ret_here in
-    subst (λ (o : Option (UnitKey × BodyTree)). CallRuns c.objects c.inside c.code c.lines c.linked c.depth c.floor (3 + frame + room) (Among c) c.address line (at pc m) m (pc + size (call_code c.depth (call_of symbol))) (suc n) (next (found_body (calls_of us n) (suc n) o [] st) (λ k. give k))) (sym found)
-    (subst (λ (k : ℕ). CallRuns c.objects c.inside c.code c.lines c.linked c.depth c.floor (3 + frame + room) (Among c) c.address line (at pc m) m k (suc n) (finish unit b st (all_done (calls_of us n) unit 1 (suc n) (statements_of statements) (fresh 1 [] st)))) total ran)

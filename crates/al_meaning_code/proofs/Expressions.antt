@@ -64,7 +64,8 @@ use Rattle.al_meaning_code.specs.Showing.{Pushed}
 use Rattle.al_meaning_code.proofs.Standing.{stands_front, stands_back}
 use Rattle.al_meaning_code.specs.Subset.{needs, needs_of, needs_form, needs_value}
 use Rattle.al_meaning_code.specs.Standing.{Stands}
-use Rattle.al_meaning_code.proofs.Operators.{Agree, plain_for, operator_for, binary_is, operation_is, agree-applied, agree-number, unary_plain, unary_for, unary_operation_is, agree-changed}
+use Rattle.al_meaning_code.proofs.Operators.{plain_for, operator_for, binary_is, operation_is, agree-applied, agree-number, unary_plain, unary_for, unary_operation_is, agree-changed}
+use Rattle.al_meaning_code.specs.Laws.{Agree}
 use Rattle.al_meaning_code.specs.Subset.{IsScalar}
 
 pub plain_some : (p : PlainOne) → 0 < size_of (instr.Plain p)

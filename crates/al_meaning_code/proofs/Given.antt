@@ -1,12 +1,8 @@
--- The laws of values and of statements.
+-- The law of values.
 use Rattle.std.proofs.Common.{◌≡◌, ℕ, ◌+◌, ℤ, List, [], ◌∷◌, Option, Some, None, Result, Ok, Err, refl, sym, ap, subst, inl, inr, ◌⊎◌, arith}
 use Rattle.al_base.specs.declared.unit_key.UnitKey.{UnitKey}
-use Rattle.al_code.specs.LineLaws.{TreesTellCode}
 use Rattle.al_code.specs.Pieces.{line_word, size}
 use Rattle.al_code.specs.Templates.{value_of}
-use Rattle.al_code.specs.declared.routine.Routine.{Routine}
-use Rattle.al_code.specs.Statements.{statements_code}
-use Rattle.al_code.specs.declared.piece.Target.TheVariants as target
 use Rattle.al_machine.specs.Bursts.{At}
 use Rattle.al_machine.specs.Machine.{Machine}
 use Rattle.al_machine.specs.declared.instruction.Exception.{Exception}
@@ -14,17 +10,15 @@ use Rattle.al_machine.specs.declared.instruction.Exception.TheVariants as except
 use Rattle.al_meaning.specs.Scalars.{Valued, ConstraintError, ProgramError, Meaningless}
 use Rattle.al_meaning.specs.States.{State, Outcome, Words}
 use Rattle.al_meaning.specs.Expressions.{value}
-use Rattle.al_meaning.specs.Statements.{all_done}
 use Rattle.al_meaning_code.specs.Running.{at, Traps, TrapsAt, Exhausts}
 use Rattle.al_meaning_code.specs.Standing.{AreOfLine}
-use Rattle.al_meaning_code.specs.Effects.{Evaluates, Runs}
-use Rattle.al_meaning_code.specs.Laws.{Setting, Among, IsLaidOut, ValuesAreGiven, StatementsAreDone}
+use Rattle.al_meaning_code.specs.Effects.{Evaluates}
+use Rattle.al_meaning_code.specs.Laws.{Setting, Among, IsLaidOut, ValuesAreGiven}
 use Rattle.al_meaning_code.specs.Subset.{needs}
 use Rattle.al_meaning_code.proofs.Expressions.{Short, Ends}
 use Rattle.al_meaning_code.proofs.Marked.{one_line}
 use Rattle.al_meaning_code.proofs.Meant.{outcome, value_meant}
 use Rattle.al_meaning_code.proofs.Plain as plain
-use Rattle.al_meaning_code.proofs.Statements.{statements_do}
 use Rattle.al_meaning_code.proofs.Unmarked.{value_unmarked}
 use Rattle.al_meaning_code.proofs.Values.{value_gives}
 
@@ -51,7 +45,3 @@ values_are_given c laid calls unit line t st ends pc m is shows stands marks =
     let ends_ = value_gives c.objects c.inside c.code c.linked c.depth c.floor (Among c) c.address laid.below laid.opens st.words t is ends pc m shows stands in
     subst (λ (o : Outcome Words). Evaluates c.objects c.inside c.code c.lines (unit, line) (at pc m) m to (needs t) st o) (sym (value_meant calls (Among c) st t is))
     (evaluates c unit line (at pc m) m pc to (needs t) st of_line (plain.value st.words t) ends_)
-
-pub statements_are_done : TreesTellCode → StatementsAreDone
-statements_are_done tell c laid calls unit unlocks room fuel before line ss st ends pc m is shows stands marks =
-    statements_do c.objects c.inside c.code c.linked c.lines unit (record { depth = c.depth; unlocks = unlocks }) calls c.floor room (Among c) c.address laid.below laid.opens laid.apart laid.alike tell fuel ss is before line st ends pc m shows stands marks

@@ -12,5 +12,7 @@ mod Meant
 mod Marked
 mod Unmarked
 mod Statements
+mod Agreed
 mod Given
 mod Calls
+mod Families

@@ -98,6 +98,10 @@ module _ (objects : List Region) (inside : List Entered) (code : List Step) wher
   pub goes : (pc next : ℕ) (i : Instruction) (m n : Machine) → fetch code pc ≡ Some (operation.Word i, next) → exec objects inside next i m ≡ Ok (On, n) → Leads objects inside code (at pc m) (at next n)
   goes pc next i m n there e = one_step pc next i m (at next n) there (ap (λ (r : Result (Flow × Machine) Trap). landed code next r) e)
 
+  -- .. which is one instruction
+  pub goes_once : (pc next : ℕ) (i : Instruction) (m n : Machine) → fetch code pc ≡ Some (operation.Word i, next) → exec objects inside next i m ≡ Ok (On, n) → carried objects inside code 1 (at pc m) ≡ Some (at next n)
+  goes_once pc next i m n there e = (one_step pc next i m (at next n) there (ap (λ (r : Result (Flow × Machine) Trap). landed code next r) e)).1
+
   -- one that raises an exception
   pub fails : (pc next to : ℕ) (i : Instruction) (m : Machine) (e : Exception) → fetch code pc ≡ Some (operation.Word i, next) → pc < to → exec objects inside next i m ≡ Err (Raised e) → Traps objects inside code (at pc m) pc to e
   fails pc next to i m e there h r = record { last = at pc m; leads = stays (at pc m); low = omega arith; high = h; next = next; instruction = i; there = there; raises = r }

@@ -17,6 +17,8 @@ use Rattle.al_view_typed.specs.ExpressionTrees.ValueTree.{Checked}
 use Rattle.al_meaning.specs.Scalars.{Valued, Meaningless, truth_of, with_truth, within, applied, applied_to, stepped}
 use Rattle.al_meaning.specs.States.{State, Outcome, Gives, Raises, GoesOn, Act, next, ◌>>=◌, give, Words, one, of_value, of_truth, truth_in, scalar, fetched, words_at, checked}
 use Rattle.al_meaning.specs.Expressions.{Calls, value, form_value, named, checked_value, converted, static_or, operated, decided, stepped_words}
+use Rattle.al_base.specs.declared.unit_key.UnitKey.{UnitKey}
+use Rattle.al_meaning.specs.Statements.{number, condition}
 use Rattle.al_meaning_code.specs.Subset.{IsScalar, IsVariable, OrStatic, IsIn, IsInForm, IsInValue}
 use Rattle.al_meaning_code.proofs.Plain as plain
 use Rattle.al_meaning_code.proofs.Plain.{then_value, or_static, decided as plain_decided}
@@ -106,7 +108,7 @@ module _ (calls : Calls) (V : ObjectPlace → Type 0) where
         ap (λ (r : Outcome Words). next r k) (value_meant st x h.1)
         ∙ then_meant st (plain.value st.words x) k (λ a. then_value (plain.value st.words y) (applied operator a))
         (λ a. ap (λ (r : Outcome Words). next r (λ ys. operated operator (a ∷ []) ys)) (value_meant st y h.2)
-            ∙ then_meant st (plain.value st.words y) (λ ys. operated operator (a ∷ []) ys) (applied operator a) (λ b. operated_meant st operator a b h.0))
+        ∙ then_meant st (plain.value st.words y) (λ ys. operated operator (a ∷ []) ys) (applied operator a) (λ b. operated_meant st operator a b h.0))
     form_meant st w (ShortCircuitForm operator x y) h =
         let k : Words → Act Words = λ vs. scalar vs >>= (λ v. of_truth v >>= (λ l. decided operator l (value calls y))) in
         ap (λ (r : Outcome Words). next r k) (value_meant st x h.0)
@@ -129,3 +131,15 @@ module _ (calls : Calls) (V : ObjectPlace → Type 0) where
       let k : Words → Act Words = λ vs. checked bounds vs in
       ap (λ (r : Outcome Words). next r k) (value_meant st x h)
       ∙ then_meant st (plain.value st.words x) k (within bounds) (λ v. checked_meant st bounds v)
+
+-- ---- numbers and conditions
+
+numbers_meant : (calls : Calls) (V : ObjectPlace → Type 0) (unit : UnitKey) (depth fuel : ℕ) (st : State) (t : TypedTree) → IsIn V t → number calls unit depth fuel t st ≡ of_value (plain.value st.words t) st
+numbers_meant calls V unit depth fuel st t h = ap (λ (o : Outcome Words). next o (λ vs. scalar vs)) (value_meant calls V st t h) ∙ go (plain.value st.words t)
+  where
+    go : (o : Valued) → next (outcome st o) (λ vs. scalar vs) ≡ of_value o st
+    go (Ok v) = refl
+    go (Err f) = refl
+
+pub conditions_meant : (calls : Calls) (V : ObjectPlace → Type 0) (unit : UnitKey) (depth fuel : ℕ) (st : State) (t : TypedTree) → IsIn V t → condition calls unit depth fuel t st ≡ next (of_value (plain.value st.words t) st) (λ v. of_truth v)
+conditions_meant calls V unit depth fuel st t h = ap (λ (o : Outcome ℤ). next o (λ v. of_truth v)) (numbers_meant calls V unit depth fuel st t h)

@@ -30,13 +30,7 @@ use Rattle.al_machine.specs.Words.{is_word, word_of, bit}
 use Rattle.al_machine.specs.Arithmetic.{are_opposite, int_mod, by_divisor, power, is_bit, logical, differ, both, either, operated, complement, changed}
 use Rattle.al_meaning_code.specs.Subset.{IsScalar}
 use Rattle.al_meaning.specs.Scalars.{Failure, ConstraintError, ProgramError, Meaningless, Valued, is_number, number_of, truth, truth_of, with_truth, by, modulo, raised_to, logic, xor_of, applied, applied_to}
-
--- the machine's result is that of the language
-abbrev pub Agree : Valued → Result ℤ Trap → Type 0
-Agree (Ok v) r = r ≡ Ok v
-Agree (Err ConstraintError) r = r ≡ Err (Raised exception.Constraint)
-Agree (Err ProgramError) r = r ≡ Err (Raised exception.Program)
-Agree (Err Meaningless) r = ⊤
+use Rattle.al_meaning_code.specs.Laws.{Agree}
 
 same_range : (z : ℤ) → is_number z ≡ is_word z
 same_range (pos n) = grind (arith, nat_tests, ints)

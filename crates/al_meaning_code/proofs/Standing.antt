@@ -19,7 +19,6 @@ use Rattle.al_machine.specs.Operations.{operation_of}
 use Rattle.al_machine.specs.Code.{fetch}
 use Rattle.al_meaning_code.proofs.Machines.{jump_size, size_cons, size-append}
 use Rattle.al_meaning_code.specs.Running.{IsThere}
-
 -- the code, and what linking makes of an instruction that uses a symbol
 use Rattle.al_meaning_code.specs.Standing.{Here, Stands}
 
@@ -74,7 +73,6 @@ module _ (code : List Step) (linked : LinkSymbol → Instr → Instr) where
           let total = size_cons (Leaving w t) ps in
           let zero_five = jump_size w (pos 0) in
           ((pos (size ps), h.0, omega (arith, ints), there), more (moved ends (pc + size_of (jump_of w (pos (size ps)))) (pc + 5) (closed c ps) (omega arith) h.1))
-
 
 closed_size : (c : Construct) (p : List Piece) → size (closed c p) ≡ size p
 closed_size c [] = refl

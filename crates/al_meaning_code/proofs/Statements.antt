@@ -1,11 +1,11 @@
 -- The code of statements does what these mean.
-use Rattle.std.proofs.Common.{◌≡◌, ◌≢◌, ℕ, zero, suc, ◌+◌, ◌-◌, ◌<◌, ◌≤◌, ℤ, List, [], ◌∷◌, ◌++◌, Bool, true, false, ◌&&◌, Option, Some, None, Ok, Err, length, nat_lt, refl, sym, ◌∙◌, ap, subst, arith, inl, inr, ◌⊎◌, append_assoc}
+use Rattle.std.proofs.Common.{◌≡◌, ◌≢◌, ℕ, zero, suc, ◌+◌, ◌-◌, ◌<◌, ◌≤◌, ℤ, List, [], ◌∷◌, ◌++◌, Bool, true, false, ◌&&◌, Option, Some, None, Ok, Err, length, nat_lt, refl, sym, ◌∙◌, ap, subst, arith, inl, inr, ◌⊎◌, append_assoc, set, get_or, length-set, get_or-set_same, get_or-set_other}
 use Rattle.std.proofs.lemmas.Bool.Decides.{nat_tests}
-use Rattle.std.specs.Prelude.{pos, ◌+ℤ◌, if◌then◌else◌}
+use Rattle.std.specs.Prelude.{pos, ◌+ℤ◌, if◌then◌else◌, neg_ℤ}
 use Rattle.al_view.specs.declared.link.LinkKind.TheVariants as links
 use Rattle.al_view.specs.declared.link.LinkSymbol.{LinkSymbol}
 use Rattle.al_view.specs.declared.view.ObjectPlace.{ObjectPlace}
-use Rattle.al_view_typed.specs.ExpressionTrees.{TypedTree, NameTree, ValueTree}
+use Rattle.al_view_typed.specs.ExpressionTrees.{TypedTree, NameTree, ValueTree, CallTree}
 use Rattle.al_view_typed.specs.ExpressionTrees.NameTree.{ObjectName, ComponentName, IndexedName}
 use Rattle.al_view_typed.specs.ExpressionTrees.ValueTree.{Checked}
 use Rattle.al_instr.specs.declared.instruction.Instr.{Instr}
@@ -14,9 +14,9 @@ use Rattle.al_instr.specs.declared.numbers.Sized.TheVariants as sized
 use Rattle.al_instr.specs.Codes.{size_of}
 use Rattle.al_code.specs.declared.piece.JumpCondition.TheVariants as when
 use Rattle.al_code.specs.declared.piece.Target.{Target}
-use Rattle.al_code.specs.Pieces.{Piece, Whole, size}
-use Rattle.al_code.specs.ExprPieces.{of_size, place_code}
-use Rattle.al_code.specs.Templates.{value_of, checked_code}
+use Rattle.al_code.specs.Pieces.{Piece, Whole, size, Leaving, closed, line_word, Line, back, repeated}
+use Rattle.al_code.specs.ExprPieces.{of_size, place_code, guarded, unless_zero, join}
+use Rattle.al_code.specs.Templates.{value_of, checked_code, call_code}
 use Rattle.al_link_image.specs.declared.parts.Region.{Region}
 use Rattle.al_machine.specs.declared.regions.Entered.{Entered}
 use Rattle.al_machine.specs.declared.code.Step.{Step}
@@ -28,12 +28,10 @@ use Rattle.al_machine.specs.Operations.{operation_of, sized_operation}
 use Rattle.al_machine.specs.Machine.{Machine, IsWithin}
 use Rattle.al_machine.specs.Stack.{word_at}
 use Rattle.al_machine.specs.Memory.{is_open}
-use Rattle.al_machine.specs.Bursts.{At}
+use Rattle.al_machine.specs.Bursts.{At, carried}
 use Rattle.al_machine.specs.Table.{on, exec}
 use Rattle.al_code.specs.declared.piece.Construct.TheVariants as construct
 use Rattle.al_code.specs.declared.piece.Target.TheVariants as target
-use Rattle.al_code.specs.Pieces.{Leaving, closed, line_word}
-use Rattle.al_code.specs.ExprPieces.{guarded, unless_zero, join}
 use Rattle.al_view_typed.specs.StatementTrees.{SchemeTree, StatementTree, StatementsTree, StatementFormTree, BranchTree, BranchesTree}
 use Rattle.al_view_typed.specs.StatementTrees.SchemeTree.{ForeverScheme, WhileScheme, ForScheme}
 use Rattle.al_view_typed.specs.StatementTrees.StatementTree.{Numbered}
@@ -43,24 +41,20 @@ use Rattle.al_view_typed.specs.StatementTrees.BranchTree.{Branch}
 use Rattle.al_view_typed.specs.StatementTrees.BranchesTree.{NoBranch, MoreBranches}
 use Rattle.al_code.specs.declared.routine.Routine.{Routine}
 use Rattle.al_code.specs.Marks.{has_code, mark_of}
-use Rattle.al_code.specs.Pieces.{Line, back, repeated}
 use Rattle.al_code.specs.Loops.{exit_code, while_code, leave_code, round_code}
 use Rattle.al_code.specs.Statements.{assignment_code, return_code, statement_code, statements_code, statement_form_code, branch_code, branches_code}
-use Rattle.al_machine.specs.Bursts.{carried}
-use Rattle.std.proofs.Common.{set, get_or, length-set, get_or-set_same, get_or-set_other}
-use Rattle.std.specs.Prelude.{neg_ℤ}
 use Rattle.std.proofs.lemmas.Int.{ints}
 use Rattle.al_base.specs.declared.unit_key.UnitKey.{UnitKey}
 use Rattle.al_code.specs.LineLaws.{TreesTellCode}
 use Rattle.al_meaning.specs.Scalars.{Failure, ConstraintError, ProgramError, Meaningless, Valued, truth_of}
-use Rattle.al_meaning.specs.States.{State, Outcome, Gives, Raises, GoesOn, Act, next, ◌>>=◌, ◌>>◌, give, told_at, at_line, of_value, of_truth, truth_in, Words, with_words, store, scalar, same_place}
-use Rattle.al_meaning.specs.Expressions.{Calls, value, named}
-use Rattle.al_meaning.specs.Statements.{Flow, On, Exits, Returns, flow_on, round_again, turns, number, condition, left, returned, round, done, all_done, form_done, branches_done, branch_done}
+use Rattle.al_meaning.specs.States.{State, Outcome, Gives, Raises, GoesOn, Act, next, ◌>>=◌, ◌>>◌, give, told_at, at_line, of_value, of_truth, truth_in, Words, with_words, store, same_place}
+use Rattle.al_meaning.specs.Expressions.{Calls, value, named, called}
+use Rattle.al_meaning.specs.Statements.{Flow, On, Exits, Returns, flow_on, round_again, turns, condition, left, returned, round, done, all_done, form_done, branches_done, branch_done}
 use Rattle.al_meaning_code.specs.Running.{Lines, at, Leads, Traps, TrapsAt, Exhausts}
 use Rattle.al_meaning_code.specs.Standing.{Stands, AreOfLine, AreMarked}
 use Rattle.al_meaning_code.specs.Showing.{Pushed, Shows, Near}
 use Rattle.al_meaning_code.specs.Subset.{needs, needs_value, IsVariable, IsIn, IsInValue, IsInExit, IsInScheme, IsInStatement, AreIn, IsInStatementForm, BranchesIn, IsInBranch}
-use Rattle.al_meaning_code.specs.Effects.{table_line, line_or, RaisesAt, Runs}
+use Rattle.al_meaning_code.specs.Effects.{table_line, line_or, RaisesAt, Runs, CallRuns}
 use Rattle.al_meaning_code.proofs.Machines.{leads_on, stays, traps_after, goes, carried_on, jumps_at_zero, passes_at_one, jumps_once, jump_size, size_cons, size-append}
 use Rattle.al_meaning_code.proofs.Effects.{stores}
 use Rattle.al_meaning_code.proofs.Standing.{starts, stands_front, stands_back, opened, size-closed, inner}
@@ -68,26 +62,13 @@ use Rattle.al_meaning_code.proofs.Operators.{two_truths}
 use Rattle.al_meaning_code.proofs.Expressions.{Short, Ends}
 use Rattle.al_meaning_code.proofs.Values.{Same, popped, reaches_kept, pushed_shows, same_shows, place_ends, value_gives, checked_gives, test_ends, top_of, at_zero, at_one, first_stands, leaves_by, joins}
 use Rattle.al_meaning_code.proofs.Plain as plain
-use Rattle.al_meaning_code.proofs.Meant.{outcome, value_meant, checked_value_meant}
+use Rattle.al_meaning_code.proofs.Meant.{outcome, checked_value_meant, conditions_meant}
 use Rattle.al_meaning_code.proofs.Unmarked.{value_unmarked, checked_unmarked}
 use Rattle.al_meaning_code.proofs.Marked.{line_after, marked_front, marked_back, marked_opened, marked_empty, one_line}
 
--- ---- numbers and conditions
-
-numbers_meant : (calls : Calls) (V : ObjectPlace → Type 0) (unit : UnitKey) (depth fuel : ℕ) (st : State) (t : TypedTree) → IsIn V t → number calls unit depth fuel t st ≡ of_value (plain.value st.words t) st
-numbers_meant calls V unit depth fuel st t h = ap (λ (o : Outcome Words). next o (λ vs. scalar vs)) (value_meant calls V st t h) ∙ go (plain.value st.words t)
-  where
-    go : (o : Valued) → next (outcome st o) (λ vs. scalar vs) ≡ of_value o st
-    go (Ok v) = refl
-    go (Err f) = refl
-
-conditions_meant : (calls : Calls) (V : ObjectPlace → Type 0) (unit : UnitKey) (depth fuel : ℕ) (st : State) (t : TypedTree) → IsIn V t → condition calls unit depth fuel t st ≡ next (of_value (plain.value st.words t) st) (λ v. of_truth v)
-conditions_meant calls V unit depth fuel st t h = ap (λ (o : Outcome ℤ). next o (λ v. of_truth v)) (numbers_meant calls V unit depth fuel st t h)
-
-module _ (objects : List Region) (inside : List Entered) (code : List Step) (linked : LinkSymbol → Instr → Instr) (lines : Lines) (unit : UnitKey) (r : Routine) (calls : Calls) (floor room : ℕ) (V : ObjectPlace → Type 0) (address : ObjectPlace → ℕ)
+module _ (objects : List Region) (inside : List Entered) (code : List Step) (linked : LinkSymbol → Instr → Instr) (lines : Lines) (unit : UnitKey) (r : Routine) (calls : Calls) (floor small room : ℕ) (V : ObjectPlace → Type 0) (address : ObjectPlace → ℕ) (C : CallTree → Type 0)
     (below : (p : ObjectPlace) → V p → address p < floor) (opened_ : (p : ObjectPlace) → V p → is_open objects inside 0 (address p) 1 ≡ true)
-    (apart : (p q : ObjectPlace) → V p → V q → same_place p q ≡ false → address p ≢ address q) (alike : (p q : ObjectPlace) → V p → V q → same_place p q ≡ true → address p ≡ address q) (tell : TreesTellCode) where
-
+    (apart : (p q : ObjectPlace) → V p → V q → same_place p q ≡ false → address p ≢ address q) (alike : (p q : ObjectPlace) → V p → V q → same_place p q ≡ true → address p ≡ address q) (tell : TreesTellCode) (roomy : small ≤ room) where
   abbrev Showing : (ObjectPlace → ℤ) → Machine → Type 0
   Showing words m = Shows linked r.depth floor V address words m
 
@@ -96,6 +77,9 @@ module _ (objects : List Region) (inside : List Entered) (code : List Step) (lin
 
   abbrev Lacks : At → Machine → Type 0
   Lacks a m = Exhausts objects inside code a m room
+
+  roomier : (k : ℕ) → k ≤ small → k ≤ room
+  roomier k h = omega (arith, roomy)
 
   near_same : (m n : Machine) → floor ≤ m.top → Same m n → Close m n
   near_same m n a s = record { first = s.first; frame = s.frame; top = s.top; long = s.long; kept = λ k h v. s.kept k (omega arith) }
@@ -243,11 +227,11 @@ module _ (objects : List Region) (inside : List Entered) (code : List Step) (lin
       let other : (k : ℕ) → k < floor → address p ≢ k → word_at z k ≡ word_at m k = λ k h u. (let o : k ≢ address p = λ e. u (sym e) in get_or-set_other q.memory (address p) k (word_at n (n.top - 1)) (pos 0) o) ∙ y.kept k (omega arith) ∙ x.kept k (omega arith) in
       let near : Close m z = record { first = fy ∙ fx; frame = ry ∙ rx; top = down; long = total ∙ ly ∙ lx; kept = λ k h u. other k h (u p var) } in
       let shown : Showing (with_words p (v ∷ []) st.words) z = record {
-            within = record { memory = omega arith; own = omega arith; frame = omega arith; below = omega arith; stack = omega arith; room = omega arith };
-            above = omega arith;
-            lies = λ o h. reaches_kept objects inside code linked r.depth floor V address m z o near.first near.frame near.kept (s.lies o h);
-            holds = λ o h. held z o h there other (same_place p o) refl;
-          } in
+        within = record { memory = omega arith; own = omega arith; frame = omega arith; below = omega arith; stack = omega arith; room = omega arith };
+        above = omega arith;
+        lies = λ o h. reaches_kept objects inside code linked r.depth floor V address m z o near.first near.frame near.kept (s.lies o h);
+        holds = λ o h. held z o h there other (same_place p o) refl;
+      } in
       inl (z, step, near, shown)
     where
       held : (z : Machine) (o : ObjectPlace) → V o → word_at z (address p) ≡ v → ((k : ℕ) → k < floor → address p ≢ k → word_at z k ≡ word_at m k) → (t : Bool) → same_place p o ≡ t → word_at z (address o) ≡ (if t then v else st.words o)
@@ -376,25 +360,25 @@ module _ (objects : List Region) (inside : List Entered) (code : List Step) (lin
       (value_gives objects inside code linked r.depth floor V address below opened_ st.words t h ends pc m s sv)
       (λ e raised. raised)
       (λ z p x. truth_runs exits home other (at pc1 p) m to fuel z (λ b. next (told_at unit line (truth_in b st)) (λ k. if k then f else g)) tt
-          (λ e.
-              let x1 = subst (Pushed m p) e x in
-              let n = record p { top = p.top - 1 } in
-              let sm = popped m p (pos 1) s.within x1 in
-              let sn = same_shows objects inside code linked r.depth floor V address below opened_ st.words m n s sm in
-              let cs = stands_front code linked te (pc1 + 5) c join (first_stands objects inside code linked r.depth floor V address below opened_ ends pc1 (c ++ join) sg) in
-              let cm = marked_front lines unit (line_after line v) (pc1 + 5) c join (guard_marked (line_after line v) pc1 (c ++ join) mg) in
-              let ran = df (line_after line v) other st te (pc1 + 5) n sn cs cm in
-              let there : (q : Machine) → Leads objects inside code (at (pc1 + 5 + size c) q) (at to q) = λ q. subst (λ (k : ℕ). Leads objects inside code (at (pc1 + 5 + size c) q) (at k q)) joined (joins objects inside code linked r.depth floor V address below opened_ ends pc1 c sg q) in
-              let ran2 = runs_to exits home other (at (pc1 + 5) n) n (pc1 + 5 + size c) to fuel (f st) there ran in
-              runs_after exits home other (at pc1 p) (at (pc1 + 5) n) m n to fuel fuel (f st) (near_same m n s.above sm) (at_one objects inside code linked r.depth floor V address below opened_ ends pc1 (c ++ join) sg m p s.within x1) (omega arith) ran2)
-          (λ e.
-              let x0 = subst (Pushed m p) e x in
-              let n = record p { top = p.top - 1 } in
-              let sm = popped m p (pos 0) s.within x0 in
-              let sn = same_shows objects inside code linked r.depth floor V address below opened_ st.words m n s sm in
-              let ran = jg (line_after line (v ++ gd)) other st ends (pc1 + size gd) n sn sr mr_ (joined ∙ sym total) in
-              let ran2 = subst (λ (k : ℕ). Ran ends other (pc1 + size gd) n k fuel (g st)) total ran in
-              runs_after exits home other (at pc1 p) (at (pc1 + size gd) n) m n to fuel fuel (g st) (near_same m n s.above sm) (at_zero objects inside code linked r.depth floor V address below opened_ ends pc1 (c ++ join) sg m p s.within x0) (omega arith) ran2))
+      (λ e.
+      let x1 = subst (Pushed m p) e x in
+      let n = record p { top = p.top - 1 } in
+      let sm = popped m p (pos 1) s.within x1 in
+      let sn = same_shows objects inside code linked r.depth floor V address below opened_ st.words m n s sm in
+      let cs = stands_front code linked te (pc1 + 5) c join (first_stands objects inside code linked r.depth floor V address below opened_ ends pc1 (c ++ join) sg) in
+      let cm = marked_front lines unit (line_after line v) (pc1 + 5) c join (guard_marked (line_after line v) pc1 (c ++ join) mg) in
+      let ran = df (line_after line v) other st te (pc1 + 5) n sn cs cm in
+      let there : (q : Machine) → Leads objects inside code (at (pc1 + 5 + size c) q) (at to q) = λ q. subst (λ (k : ℕ). Leads objects inside code (at (pc1 + 5 + size c) q) (at k q)) joined (joins objects inside code linked r.depth floor V address below opened_ ends pc1 c sg q) in
+      let ran2 = runs_to exits home other (at (pc1 + 5) n) n (pc1 + 5 + size c) to fuel (f st) there ran in
+      runs_after exits home other (at pc1 p) (at (pc1 + 5) n) m n to fuel fuel (f st) (near_same m n s.above sm) (at_one objects inside code linked r.depth floor V address below opened_ ends pc1 (c ++ join) sg m p s.within x1) (omega arith) ran2)
+      (λ e.
+      let x0 = subst (Pushed m p) e x in
+      let n = record p { top = p.top - 1 } in
+      let sm = popped m p (pos 0) s.within x0 in
+      let sn = same_shows objects inside code linked r.depth floor V address below opened_ st.words m n s sm in
+      let ran = jg (line_after line (v ++ gd)) other st ends (pc1 + size gd) n sn sr mr_ (joined ∙ sym total) in
+      let ran2 = subst (λ (k : ℕ). Ran ends other (pc1 + size gd) n k fuel (g st)) total ran in
+      runs_after exits home other (at pc1 p) (at (pc1 + size gd) n) m n to fuel fuel (g st) (near_same m n s.above sm) (at_zero objects inside code linked r.depth floor V address below opened_ ends pc1 (c ++ join) sg m p s.within x0) (omega arith) ran2))
 
   choice_does : (fuel : ℕ) (c : List Piece) (f : Act Flow) → JoinsAs fuel c f → Does fuel (closed construct.Choice c) f
   choice_does fuel c f j l line st ends pc m s stands marks =
@@ -485,28 +469,28 @@ module _ (objects : List Region) (inside : List Entered) (code : List Step) (lin
       (value_gives objects inside code linked r.depth floor V address below opened_ st.words t h ends pc m s sv)
       (λ e raised. raised)
       (λ z p x. truth_runs exits home (unit, line) (at pc1 p) m to fuel z (λ b. next (truth_in b st) k) tt
-          (λ e.
-              let x1 = subst (Pushed m p) e x in
-              let n = record p { top = p.top - 1 } in
-              let sm = popped m p (pos 1) s.within x1 in
-              let sn = same_shows objects inside code linked r.depth floor V address below opened_ st.words m n s sm in
-              let tp = top_is m p (pos 1) s.within x1 in
-              let ran = subst (λ (i : ℕ). Ran ends (unit, line) (pc1 + 5) n i fuel (f st)) total (d lc (unit, line) st ends (pc1 + 5) n sn sc mc) in
-              runs_after exits home (unit, line) (at pc1 p) (at (pc1 + 5) n) m n to fuel fuel (f st) (near_same m n s.above sm) (passes_at_one objects inside code pc1 (pc1 + 5) j.0 p here tp.0 tp.1) (omega arith) ran)
-          (λ e.
-              let x0 = subst (Pushed m p) e x in
-              let n = record p { top = p.top - 1 } in
-              let sm = popped m p (pos 0) s.within x0 in
-              let sn = same_shows objects inside code linked r.depth floor V address below opened_ st.words m n s sm in
-              let tp = top_is m p (pos 0) s.within x0 in
-              inl (n, jumps_at_zero objects inside code pc1 (pc1 + 5) (ends (target.Loop 0)) j.0 p here j.3 j.2 tp.0 tp.1, near_same m n s.above sm, sn))))
+      (λ e.
+      let x1 = subst (Pushed m p) e x in
+      let n = record p { top = p.top - 1 } in
+      let sm = popped m p (pos 1) s.within x1 in
+      let sn = same_shows objects inside code linked r.depth floor V address below opened_ st.words m n s sm in
+      let tp = top_is m p (pos 1) s.within x1 in
+      let ran = subst (λ (i : ℕ). Ran ends (unit, line) (pc1 + 5) n i fuel (f st)) total (d lc (unit, line) st ends (pc1 + 5) n sn sc mc) in
+      runs_after exits home (unit, line) (at pc1 p) (at (pc1 + 5) n) m n to fuel fuel (f st) (near_same m n s.above sm) (passes_at_one objects inside code pc1 (pc1 + 5) j.0 p here tp.0 tp.1) (omega arith) ran)
+      (λ e.
+      let x0 = subst (Pushed m p) e x in
+      let n = record p { top = p.top - 1 } in
+      let sm = popped m p (pos 0) s.within x0 in
+      let sn = same_shows objects inside code linked r.depth floor V address below opened_ st.words m n s sm in
+      let tp = top_is m p (pos 0) s.within x0 in
+      inl (n, jumps_at_zero objects inside code pc1 (pc1 + 5) (ends (target.Loop 0)) j.0 p here j.3 j.2 tp.0 tp.1, near_same m n s.above sm, sn))))
     where
       top_is : (m p : Machine) (v : ℤ) → IsWithin m → Pushed m p v → (p.frame < p.top) × (word_at p (p.top - 1) ≡ v)
       top_is m p v w x = top_of objects inside code linked r.depth floor V address below opened_ m p v w x
 
-  round_does : (fuel line : ℕ) (scheme : SchemeTree) (c : List Piece) (f : Act Flow) → IsInScheme V room scheme → Does fuel c f → DoesAt fuel line (closed construct.Loop (round_code r.depth scheme c)) (round calls unit r.depth fuel scheme f)
+  round_does : (fuel line : ℕ) (scheme : SchemeTree) (c : List Piece) (f : Act Flow) → IsInScheme V C small scheme → Does fuel c f → DoesAt fuel line (closed construct.Loop (round_code r.depth scheme c)) (round calls unit r.depth fuel scheme f)
   round_does fuel line ForeverScheme c f h d = loop_does fuel line c f (does_at fuel line c f d)
-  round_does fuel line (WhileScheme t) c f h d = loop_does fuel line ((value_of r.depth t ++ while_code) ++ c) (condition calls unit r.depth fuel t >>= (λ b. if b then f else give (Exits 0))) (while_does fuel line t c f h.0 h.1 d)
+  round_does fuel line (WhileScheme t) c f h d = loop_does fuel line ((value_of r.depth t ++ while_code) ++ c) (condition calls unit r.depth fuel t >>= (λ b. if b then f else give (Exits 0))) (while_does fuel line t c f h.0 (roomier (needs t) h.1) d)
   round_does fuel line (ForScheme is_reverse low high mark parameter last) c f h d = absurd h
 
   -- ---- exits and returns
@@ -514,7 +498,7 @@ module _ (objects : List Region) (inside : List Entered) (code : List Step) (lin
   exit_does : (fuel line loops : ℕ) → DoesAt fuel line (exit_code loops) (give (Exits loops))
   exit_does fuel line loops st ends pc m s stands marks = inl (m, leaves_by objects inside code linked r.depth floor V address below opened_ ends pc (target.Loop loops) m stands, near_self m, s)
 
-  leave_does : (fuel line loops : ℕ) (t : Option TypedTree) → IsInExit V room t → DoesAt fuel line (leave_code r.depth loops t) (left calls unit r.depth fuel loops t)
+  leave_does : (fuel line loops : ℕ) (t : Option TypedTree) → IsInExit V C small t → DoesAt fuel line (leave_code r.depth loops t) (left calls unit r.depth fuel loops t)
   leave_does fuel line loops None h = exit_does fuel line loops
   leave_does fuel line loops (Some t) h = λ st ends pc m s stands marks.
       let v = value_of r.depth t in
@@ -531,26 +515,26 @@ module _ (objects : List Region) (inside : List Entered) (code : List Step) (lin
       let k : Bool → Act Flow = λ b. give (if b then Exits loops else On) in
       subst (λ (o : Outcome Bool). Ran ends (unit, line) pc m to fuel (next o k)) (sym (conditions_meant calls V unit r.depth fuel st t h.0))
       (value_runs exits home line (unit, line) (at pc m) m pc pc1 to fuel (needs t) (plain.value st.words t) (λ o. next (next (of_value o st) (λ z. of_truth z)) k)
-      (one_line lines unit line pc v (value_unmarked V r.depth t h.0) mv) h.1
+      (one_line lines unit line pc v (value_unmarked V r.depth t h.0) mv) (roomier (needs t) h.1)
       (value_gives objects inside code linked r.depth floor V address below opened_ st.words t h.0 ends pc m s sv)
       (λ e raised. raised)
       (λ z p x. truth_runs exits home (unit, line) (at pc1 p) m to fuel z (λ b. next (truth_in b st) k) tt
-          (λ e.
-              let x1 = subst (Pushed m p) e x in
-              let n = record p { top = p.top - 1 } in
-              let sm = popped m p (pos 1) s.within x1 in
-              let sn = same_shows objects inside code linked r.depth floor V address below opened_ st.words m n s sm in
-              let es = first_stands objects inside code linked r.depth floor V address below opened_ ends pc1 (exit_code loops) sg in
-              let o : Outcome Flow = Gives (Exits loops) st in
-              runs_after exits home (unit, line) (at pc1 p) (at (pc1 + 5) n) m n to fuel fuel o (near_same m n s.above sm) (at_one objects inside code linked r.depth floor V address below opened_ ends pc1 (exit_code loops) sg m p s.within x1) (omega arith)
-              (inl (n, leaves_by objects inside code linked r.depth floor V address below opened_ te (pc1 + 5) (target.Loop loops) n es, near_self n, sn)))
-          (λ e.
-              let x0 = subst (Pushed m p) e x in
-              let n = record p { top = p.top - 1 } in
-              let sm = popped m p (pos 0) s.within x0 in
-              let sn = same_shows objects inside code linked r.depth floor V address below opened_ st.words m n s sm in
-              let l = at_zero objects inside code linked r.depth floor V address below opened_ ends pc1 (exit_code loops) sg m p s.within x0 in
-              inl (n, subst (λ (i : ℕ). Leads objects inside code (at pc1 p) (at i n)) total l, near_same m n s.above sm, sn))))
+      (λ e.
+      let x1 = subst (Pushed m p) e x in
+      let n = record p { top = p.top - 1 } in
+      let sm = popped m p (pos 1) s.within x1 in
+      let sn = same_shows objects inside code linked r.depth floor V address below opened_ st.words m n s sm in
+      let es = first_stands objects inside code linked r.depth floor V address below opened_ ends pc1 (exit_code loops) sg in
+      let o : Outcome Flow = Gives (Exits loops) st in
+      runs_after exits home (unit, line) (at pc1 p) (at (pc1 + 5) n) m n to fuel fuel o (near_same m n s.above sm) (at_one objects inside code linked r.depth floor V address below opened_ ends pc1 (exit_code loops) sg m p s.within x1) (omega arith)
+      (inl (n, leaves_by objects inside code linked r.depth floor V address below opened_ te (pc1 + 5) (target.Loop loops) n es, near_self n, sn)))
+      (λ e.
+      let x0 = subst (Pushed m p) e x in
+      let n = record p { top = p.top - 1 } in
+      let sm = popped m p (pos 0) s.within x0 in
+      let sn = same_shows objects inside code linked r.depth floor V address below opened_ st.words m n s sm in
+      let l = at_zero objects inside code linked r.depth floor V address below opened_ ends pc1 (exit_code loops) sg m p s.within x0 in
+      inl (n, subst (λ (i : ℕ). Leads objects inside code (at pc1 p) (at i n)) total l, near_same m n s.above sm, sn))))
 
   return_does : (fuel line words : ℕ) → DoesAt fuel line (return_code r None words) (returned calls unit r.depth fuel None)
   return_does fuel line words st ends pc m s stands marks = inl (m, leaves_by objects inside code linked r.depth floor V address below opened_ ends pc target.Routine m stands, near_self m, s)
@@ -575,36 +559,44 @@ module _ (objects : List Region) (inside : List Entered) (code : List Step) (lin
       (subst (λ (k : ℕ). Ran ends other pc m k fuel (next (told_at unit line (next (of_value (plain.value st.words t) st) (λ v. of_truth v))) (λ b. if b then f else g))) same
       (branch_joins fuel line t c rest f g h fits df jg l other st ends pc m s stands marks (joined ∙ sym same)))
 
-  mutual
-    pub statement_does : (fuel : ℕ) (s : StatementTree) → IsInStatement V room s → Does fuel (statement_code r s) (done calls unit r.depth fuel s)
-    statement_does fuel (Numbered line form) h = marked_does fuel (has_code form) line (statement_form_code r line form) (form_done calls unit r.depth fuel form) (codeless line form) (form_does fuel line form h)
+  -- a call that is a statement
+  called_runs : (exits : ℕ → ℕ) (home : ℕ) (line : UnitKey × ℕ) (a : At) (m : Machine) (to fuel : ℕ) (o : Outcome Words) → CallRuns objects inside code lines linked r.depth floor room V address line a m to fuel o → Runs objects inside code lines linked r.depth floor room V address exits home line a m to fuel (next o (λ x. give On))
+  called_runs exits home line a m to fuel (Gives [] st) x = x
+  called_runs exits home line a m to fuel (Gives (v ∷ vs) st) x = absurd x
+  called_runs exits home line a m to fuel (Raises e told st) x = x
+  called_runs exits home line a m to fuel (GoesOn st) x = x
 
-    pub statements_do : (fuel : ℕ) (ss : StatementsTree) → AreIn V room ss → Does fuel (statements_code r ss) (all_done calls unit r.depth fuel ss)
-    statements_do fuel NoStatement h = nothing_does fuel
-    statements_do fuel (MoreStatements s ss) h = seq_does fuel (statement_code r s) (statements_code r ss) (done calls unit r.depth fuel s) (all_done calls unit r.depth fuel ss) (statement_does fuel s h.0) (statements_do fuel ss h.1)
+  module _ (fuel : ℕ) (calls_do : (line : UnitKey × ℕ) (call : CallTree) → C call → (st : State) (ends : Target → ℕ) (pc : ℕ) (m : Machine) → Showing st.words m → StandsHere ends pc (call_code r.depth call) → CallRuns objects inside code lines linked r.depth floor room V address line (at pc m) m (pc + size (call_code r.depth call)) fuel (called calls call st)) where
+    mutual
+      pub statement_does : (s : StatementTree) → IsInStatement V C small s → Does fuel (statement_code r s) (done calls unit r.depth fuel s)
+      statement_does (Numbered line form) h = marked_does fuel (has_code form) line (statement_form_code r line form) (form_done calls unit r.depth fuel form) (codeless line form) (form_does line form h)
 
-    form_does : (fuel line : ℕ) (form : StatementFormTree) → IsInStatementForm V room form → DoesAt fuel line (statement_form_code r line form) (form_done calls unit r.depth fuel form)
-    form_does fuel line NullStatement h = does_at fuel line [] (give On) (nothing_does fuel)
-    form_does fuel line (AssignmentStatement target_ words x) h = assign_does fuel line target_ words x h.0 h.1 h.2 h.3
-    form_does fuel line (IfStatement branches otherwise) h =
-        does_at fuel line (closed construct.Choice (branches_code r branches ++ statements_code r otherwise)) (branches_done calls unit r.depth fuel branches (all_done calls unit r.depth fuel otherwise))
-        (choice_does fuel (branches_code r branches ++ statements_code r otherwise) (branches_done calls unit r.depth fuel branches (all_done calls unit r.depth fuel otherwise))
-        (branches_join fuel branches (statements_code r otherwise) (all_done calls unit r.depth fuel otherwise) h.0 (otherwise_joins fuel (statements_code r otherwise) (all_done calls unit r.depth fuel otherwise) (statements_do fuel otherwise h.1))))
-    form_does fuel line (LoopStatement scheme statements) h = round_does fuel line scheme (statements_code r statements) (all_done calls unit r.depth fuel statements) h.0 (statements_do fuel statements h.1)
-    form_does fuel line (ExitStatement loops t) h = leave_does fuel line loops t h
-    form_does fuel line (ReturnStatement None words) h = return_does fuel line words
-    form_does fuel line (ReturnStatement (Some x) words) h = absurd h
-    form_does fuel line (CallStatement call) h = absurd h
-    form_does fuel line (PutStatement pieces ends_line) h = absurd h
-    form_does fuel line (DelayStatement moment) h = absurd h
-    form_does fuel line (CaseStatement selector word alternatives otherwise) h = absurd h
-    form_does fuel line (BlockStatement declarations statements) h = absurd h
+      pub statements_do : (ss : StatementsTree) → AreIn V C small ss → Does fuel (statements_code r ss) (all_done calls unit r.depth fuel ss)
+      statements_do NoStatement h = nothing_does fuel
+      statements_do (MoreStatements s ss) h = seq_does fuel (statement_code r s) (statements_code r ss) (done calls unit r.depth fuel s) (all_done calls unit r.depth fuel ss) (statement_does s h.0) (statements_do ss h.1)
 
-    branches_join : (fuel : ℕ) (bs : BranchesTree) (rest : List Piece) (g : Act Flow) → BranchesIn V room bs → JoinsAs fuel rest g → JoinsAs fuel (branches_code r bs ++ rest) (branches_done calls unit r.depth fuel bs g)
-    branches_join fuel NoBranch rest g h j = j
-    branches_join fuel (MoreBranches b bs) rest g h j =
-        subst (λ (c : List Piece). JoinsAs fuel c (branch_done calls unit r.depth fuel b (branches_done calls unit r.depth fuel bs g))) (sym (append_assoc (branch_code r b) (branches_code r bs) rest))
-        (branch_join fuel b (branches_code r bs ++ rest) (branches_done calls unit r.depth fuel bs g) h.0 (branches_join fuel bs rest g h.1 j))
+      form_does : (line : ℕ) (form : StatementFormTree) → IsInStatementForm V C small form → DoesAt fuel line (statement_form_code r line form) (form_done calls unit r.depth fuel form)
+      form_does line NullStatement h = does_at fuel line [] (give On) (nothing_does fuel)
+      form_does line (AssignmentStatement target_ words x) h = assign_does fuel line target_ words x h.0 h.1 h.2 (roomier (needs_value x) h.3)
+      form_does line (IfStatement branches otherwise) h =
+          does_at fuel line (closed construct.Choice (branches_code r branches ++ statements_code r otherwise)) (branches_done calls unit r.depth fuel branches (all_done calls unit r.depth fuel otherwise))
+          (choice_does fuel (branches_code r branches ++ statements_code r otherwise) (branches_done calls unit r.depth fuel branches (all_done calls unit r.depth fuel otherwise))
+          (branches_join branches (statements_code r otherwise) (all_done calls unit r.depth fuel otherwise) h.0 (otherwise_joins fuel (statements_code r otherwise) (all_done calls unit r.depth fuel otherwise) (statements_do otherwise h.1))))
+      form_does line (LoopStatement scheme statements) h = round_does fuel line scheme (statements_code r statements) (all_done calls unit r.depth fuel statements) h.0 (statements_do statements h.1)
+      form_does line (ExitStatement loops t) h = leave_does fuel line loops t h
+      form_does line (ReturnStatement None words) h = return_does fuel line words
+      form_does line (ReturnStatement (Some x) words) h = absurd h
+      form_does line (CallStatement call) h = λ st ends pc m s stands marks. called_runs (λ (k : ℕ). ends (target.Loop k)) (ends target.Routine) (unit, line) (at pc m) m (pc + size (call_code r.depth call)) fuel (called calls call st) (calls_do (unit, line) call h st ends pc m s stands)
+      form_does line (PutStatement pieces ends_line) h = absurd h
+      form_does line (DelayStatement moment) h = absurd h
+      form_does line (CaseStatement selector word alternatives otherwise) h = absurd h
+      form_does line (BlockStatement declarations statements) h = absurd h
 
-    branch_join : (fuel : ℕ) (b : BranchTree) (rest : List Piece) (g : Act Flow) → IsInBranch V room b → JoinsAs fuel rest g → JoinsAs fuel (branch_code r b ++ rest) (branch_done calls unit r.depth fuel b g)
-    branch_join fuel (Branch line t statements) rest g h j = mark_joins fuel line t (statements_code r statements) rest (all_done calls unit r.depth fuel statements) g h.0 h.1 (statements_do fuel statements h.2) j
+      branches_join : (bs : BranchesTree) (rest : List Piece) (g : Act Flow) → BranchesIn V C small bs → JoinsAs fuel rest g → JoinsAs fuel (branches_code r bs ++ rest) (branches_done calls unit r.depth fuel bs g)
+      branches_join NoBranch rest g h j = j
+      branches_join (MoreBranches b bs) rest g h j =
+          subst (λ (c : List Piece). JoinsAs fuel c (branch_done calls unit r.depth fuel b (branches_done calls unit r.depth fuel bs g))) (sym (append_assoc (branch_code r b) (branches_code r bs) rest))
+          (branch_join b (branches_code r bs ++ rest) (branches_done calls unit r.depth fuel bs g) h.0 (branches_join bs rest g h.1 j))
+
+      branch_join : (b : BranchTree) (rest : List Piece) (g : Act Flow) → IsInBranch V C small b → JoinsAs fuel rest g → JoinsAs fuel (branch_code r b ++ rest) (branch_done calls unit r.depth fuel b g)
+      branch_join (Branch line t statements) rest g h j = mark_joins fuel line t (statements_code r statements) rest (all_done calls unit r.depth fuel statements) g h.0 (roomier (needs t) h.1) (statements_do statements h.2) j

@@ -64,9 +64,9 @@ use Rattle.al_meaning_code.proofs.Effects.{within_put, put_pushed, self_pushed, 
 use Rattle.al_meaning_code.specs.Showing.{Pushed}
 use Rattle.al_meaning_code.proofs.Standing.{stands_front, stands_back}
 use Rattle.al_meaning_code.specs.Standing.{Stands}
-use Rattle.al_meaning_code.proofs.Operators.{Agree, plain_for, operator_for, binary_is, operation_is, agree-applied, agree-number, unary_plain, unary_for, unary_operation_is, agree-changed}
+use Rattle.al_meaning_code.proofs.Operators.{plain_for, operator_for, binary_is, operation_is, agree-applied, agree-number, unary_plain, unary_for, unary_operation_is, agree-changed}
+use Rattle.al_meaning_code.specs.Laws.{Agree}
 use Rattle.al_meaning_code.specs.Subset.{IsScalar}
-
 use Rattle.al_code.specs.declared.piece.Construct.TheVariants as construct
 use Rattle.al_code.specs.declared.piece.Target.TheVariants as target
 use Rattle.al_code.specs.Pieces.{Leaving, closed, jump_of}
@@ -107,7 +107,11 @@ popped m p v w x =
     let t = x.top in let f = x.frame in let i = x.first in let l = x.long in let pw = x.within in
     let a = pw.memory in let b = pw.own in let c = pw.frame in let d = pw.below in let s = w.stack in let r = w.room in
     record {
-      first = x.first; frame = x.frame; top = omega arith; long = x.long; kept = x.kept;
+      first = x.first;
+      frame = x.frame;
+      top = omega arith;
+      long = x.long;
+      kept = x.kept;
       within = record { memory = a; own = b; frame = c; below = d; stack = omega arith; room = omega arith };
     }
 
@@ -115,7 +119,10 @@ pub pushed_same : (m n p : Machine) (v : ℤ) → Same m n → Pushed n p v → 
 pushed_same m n p v s x =
     let t = s.top in let u = x.top in
     record {
-      first = x.first ∙ s.first; frame = x.frame ∙ s.frame; top = omega arith; long = x.long ∙ s.long;
+      first = x.first ∙ s.first;
+      frame = x.frame ∙ s.frame;
+      top = omega arith;
+      long = x.long ∙ s.long;
       kept = λ k h. x.kept k (omega arith) ∙ s.kept k h;
       word = ap (λ (k : ℕ). word_at p k) (sym s.top) ∙ x.word;
       within = x.within;
@@ -224,7 +231,7 @@ module _ (objects : List Region) (inside : List Entered) (code : List Step) (lin
         let first_part = number_ends (λ q. pos 0) ends (pos 1) pc 1 n x.within (omega arith) (stands_front code linked ends pc (number (pos 1)) (one p) stands) in
         let after = stands_back code linked ends pc (number (pos 1)) (one p) stands in
         let more = then_ends objects inside code (at pc n) n m pc (pc + size (number (pos 1))) pc (pc + size (number (pos 1) ++ one p)) 1 need (Ok (pos 1)) (λ b. applied o a b) f (omega arith) (omega arith) (omega arith) (omega (arith, total)) first_part
-            (λ b q y. operator_ends objects inside code o 1 (pc + size (number (pos 1))) _ need linked ends m n q a b scalar w x y (subst (Stands code linked ends (pc + size (number (pos 1)))) (sym code_is) after) (ap (λ (c : List Piece). (pc + size (number (pos 1))) + size c) code_is ∙ total)) in
+        (λ b q y. operator_ends objects inside code o 1 (pc + size (number (pos 1))) _ need linked ends m n q a b scalar w x y (subst (Stands code linked ends (pc + size (number (pos 1)))) (sym code_is) after) (ap (λ (c : List Piece). (pc + size (number (pos 1))) + size c) code_is ∙ total)) in
         more
 
     pub step_ends : (c : Conversion) (ends : Target → ℕ) (pc need : ℕ) (m n : Machine) (a : ℤ) → IsWithin m → Pushed m n a → 2 ≤ need → Stands code linked ends pc (step_code c) → Ends objects inside code (at pc n) pc m (pc + size (step_code c)) need (stepped c a)
@@ -409,11 +416,11 @@ module _ (objects : List Region) (inside : List Entered) (code : List Step) (lin
         subst (λ (c : List Piece). Gives env c (max nx (1 + ny)) (then_value x (λ a. then_value y (applied o a)))) (sym (append_assoc cx cy (binary_code o w)))
         (then_gives env cx (cy ++ binary_code o w) nx (max nx (1 + ny)) x (λ a. then_value y (applied o a)) (omega arith) gx
         (λ ends pc m p v s px stands.
-            let total : (pc + size cy) + size (binary_code o w) ≡ pc + size (cy ++ binary_code o w) = omega (arith, size-append cy (binary_code o w)) in
-            let t = px.top in
-            then_ends objects inside code (at pc p) p m pc (pc + size cy) pc (pc + size (cy ++ binary_code o w)) ny (max nx (1 + ny)) y (applied o v) px.first (omega arith) (omega arith) (omega arith) (omega (arith, total))
-            (gy ends pc p (pushed_shows env m p v s px) (stands_front code linked ends pc cy (binary_code o w) stands))
-            (λ b q py. operator_ends objects inside code o w (pc + size cy) (pc + size (cy ++ binary_code o w)) (max nx (1 + ny)) linked ends m p q v b scalar s.within px py (stands_back code linked ends pc cy (binary_code o w) stands) total)))
+        let total : (pc + size cy) + size (binary_code o w) ≡ pc + size (cy ++ binary_code o w) = omega (arith, size-append cy (binary_code o w)) in
+        let t = px.top in
+        then_ends objects inside code (at pc p) p m pc (pc + size cy) pc (pc + size (cy ++ binary_code o w)) ny (max nx (1 + ny)) y (applied o v) px.first (omega arith) (omega arith) (omega arith) (omega (arith, total))
+        (gy ends pc p (pushed_shows env m p v s px) (stands_front code linked ends pc cy (binary_code o w) stands))
+        (λ b q py. operator_ends objects inside code o w (pc + size cy) (pc + size (cy ++ binary_code o w)) (max nx (1 + ny)) linked ends m p q v b scalar s.within px py (stands_back code linked ends pc cy (binary_code o w) stands) total)))
 
     mutual
       pub value_gives : (env : Variables) (t : TypedTree) → IsIn V t → Gives env (value_of depth t) (needs t) (value env t)
@@ -430,7 +437,7 @@ module _ (objects : List Region) (inside : List Entered) (code : List Step) (lin
           let n = max 1 (max (needs x) (needs y)) in
           then_gives env (value_of depth x) (short_code operator (value_of depth y)) (needs x) n (value env x) (λ a. decided operator a (value env y)) (omega arith) (value_gives env x h.0)
           (λ ends pc m p v s z st. short_ends env operator ends pc n m p v (value_of depth y) (value env y) s z (omega arith) st
-              (λ ends' pc' q sq tq stq. more_room (at pc' q) q pc' (pc' + size (value_of depth y)) (needs y) n (value env y) (omega arith) (value_gives env y h.1 ends' pc' q sq stq)))
+          (λ ends' pc' q sq tq stq. more_room (at pc' q) q pc' (pc' + size (value_of depth y)) (needs y) n (value env y) (omega arith) (value_gives env y h.1 ends' pc' q sq stq)))
       form_gives env w (ConvertedForm conversion x) h = converted_gives env conversion x h
       form_gives env w (MembershipForm x is_negated low high word) h = absurd h
       form_gives env w (AggregateForm values) h = absurd h
@@ -444,10 +451,10 @@ module _ (objects : List Region) (inside : List Entered) (code : List Step) (lin
           subst (λ (k : List Piece). Gives env k n (then_value (value env x) (λ a. then_value (stepped c a) (within bounds)))) (sym (append_assoc (value_of depth x) (step_code c) (check_code bounds)))
           (then_gives env (value_of depth x) (step_code c ++ check_code bounds) (needs x) n (value env x) (λ a. then_value (stepped c a) (within bounds)) (omega arith) (value_gives env x h)
           (λ ends pc m p v s y st.
-              let total : (pc + size (step_code c)) + size (check_code bounds) ≡ pc + size (step_code c ++ check_code bounds) = omega (arith, size-append (step_code c) (check_code bounds)) in
-              then_ends objects inside code (at pc p) m m pc (pc + size (step_code c)) pc (pc + size (step_code c ++ check_code bounds)) n n (stepped c v) (within bounds) refl (omega arith) (omega arith) (omega arith) (omega (arith, total))
-              (step_ends c ends pc n m p v s.within y (omega arith) (stands_front code linked ends pc (step_code c) (check_code bounds) st))
-              (λ b q z. subst (λ (k : ℕ). Ends objects inside code (at (pc + size (step_code c)) q) (pc + size (step_code c)) m k n (within bounds b)) total (check_ends objects inside code bounds (pc + size (step_code c)) n linked ends m q b s.within z (stands_back code linked ends pc (step_code c) (check_code bounds) st)))))
+          let total : (pc + size (step_code c)) + size (check_code bounds) ≡ pc + size (step_code c ++ check_code bounds) = omega (arith, size-append (step_code c) (check_code bounds)) in
+          then_ends objects inside code (at pc p) m m pc (pc + size (step_code c)) pc (pc + size (step_code c ++ check_code bounds)) n n (stepped c v) (within bounds) refl (omega arith) (omega arith) (omega arith) (omega (arith, total))
+          (step_ends c ends pc n m p v s.within y (omega arith) (stands_front code linked ends pc (step_code c) (check_code bounds) st))
+          (λ b q z. subst (λ (k : ℕ). Ends objects inside code (at (pc + size (step_code c)) q) (pc + size (step_code c)) m k n (within bounds b)) total (check_ends objects inside code bounds (pc + size (step_code c)) n linked ends m q b s.within z (stands_back code linked ends pc (step_code c) (check_code bounds) st)))))
 
     pub checked_gives : (env : Variables) (x : ValueTree) → IsInValue V x → Gives env (checked_code depth x) (needs_value x) (checked_value env x)
     checked_gives env (Checked x bounds) h =

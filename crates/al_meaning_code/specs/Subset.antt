@@ -1,11 +1,11 @@
 -- The trees that the laws speak of, over some variables: scalar expressions without calls, assignments to whole scalar variables, if statements,
--- loops without a parameter, exits, returns from procedures. And how many words of the stack they need.
+-- loops without a parameter, exits, returns from procedures, some calls. And how many words of the stack they need.
 use Rattle.std.specs.Prelude.{◌≡◌, ℕ, ◌+◌, ◌≤◌, ⊤, max, Option, Some, None}
 use Rattle.al_view.specs.declared.types.StaticValue.{StaticValue}
 use Rattle.al_view.specs.declared.view.ObjectPlace.{ObjectPlace}
 use Rattle.al_view_typed.specs.declared.label.BinaryOperator.{BinaryOperator}
 use Rattle.al_view_typed.specs.declared.label.BinaryOperator.TheVariants as source
-use Rattle.al_view_typed.specs.ExpressionTrees.{TypedTree, FormTree, NameTree, ValueTree}
+use Rattle.al_view_typed.specs.ExpressionTrees.{TypedTree, FormTree, NameTree, ValueTree, CallTree}
 use Rattle.al_view_typed.specs.ExpressionTrees.TypedTree.{Labelled}
 use Rattle.al_view_typed.specs.ExpressionTrees.FormTree.{LiteralForm, NamedForm, UnaryForm, BinaryForm, ShortCircuitForm, MembershipForm, ConvertedForm, AggregateForm, OthersForm, CallForm, ClockForm}
 use Rattle.al_view_typed.specs.ExpressionTrees.NameTree.{ObjectName, ComponentName, IndexedName}
@@ -71,9 +71,9 @@ abbrev mutual
   pub IsInValue : (ObjectPlace → Type 0) → ValueTree → Type 0
   IsInValue V (Checked x bounds) = IsIn V x
 
--- ---- statements, each of which needs no more than `room`
+-- ---- statements: which calls there are, and that each value needs no more than `room`
 
-module _ (V : ObjectPlace → Type 0) (room : ℕ) where
+module _ (V : ObjectPlace → Type 0) (C : CallTree → Type 0) (room : ℕ) where
   abbrev pub IsInExit : Option TypedTree → Type 0
   IsInExit None = ⊤
   IsInExit (Some condition) = IsIn V condition × (needs condition ≤ room)
@@ -98,6 +98,7 @@ module _ (V : ObjectPlace → Type 0) (room : ℕ) where
     IsInStatementForm (LoopStatement scheme statements) = IsInScheme scheme × AreIn statements
     IsInStatementForm (ExitStatement loops condition) = IsInExit condition
     IsInStatementForm (ReturnStatement None words) = ⊤
+    IsInStatementForm (CallStatement call) = C call
     IsInStatementForm _ = ⊥
 
     pub BranchesIn : BranchesTree → Type 0
