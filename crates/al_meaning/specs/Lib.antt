@@ -4,3 +4,4 @@ pub mod Expressions
 pub mod Declarations
 pub mod Statements
 pub mod Partitions
+pub mod Examples

@@ -6,6 +6,11 @@
 //!   loops and the depth of calls.
 //! - `Scalars` has the operators, `States` states and outcomes, `Expressions` names, values and calls by what bodies do, `Declarations` and
 //!   `Statements` what is elaborated and executed, `Partitions` bodies, calls and whole partitions.
+//! - `laws` has small programs with what they mean (`Examples`).
 //! - The order of evaluation is that of the code. *Meaningless* is what no checked unit does, as to call a symbol without a body. Storage_Error isn't
 //!   in the meaning: a stack is finite, and the law of the code says where that shows.
 #![tactic(auto)]
+
+mod laws;
+
+pub use laws::{calls_return, exceptions_have_lines, loops_end, operators_give};
