@@ -87,7 +87,12 @@ body letter kind formals ss = record { symbol = symbol letter; kind = kind; dept
 -- the main procedure `m` with these statements, and bodies inside it
 abbrev pub unit : List StatementTree → List BodyTree → UnitTree
 unit ss bodies = record {
-  unit = m; elaboration = None; words = 0; objects = []; flags = []; protected_objects = [];
+  unit = m;
+  elaboration = None;
+  words = 0;
+  objects = [];
+  flags = [];
+  protected_objects = [];
   bodies = record { symbol = symbol 109; kind = kinds.Procedure 0; depth = 1; formals = []; inside = record { line = 1; frame = 4; declarations = []; statements = ss } } ∷ bodies;
 }
 
@@ -106,15 +111,15 @@ left ss bodies n = left_in (places.Static (symbol 115) 0) n (meaning (unit ss bo
 abbrev pub counting : List StatementTree
 counting =
     Numbered 3 (LoopStatement (ForScheme true (number 1) (number 5) None 5 6) (list (
-        Numbered 4 (ExitStatement 0 (Some (op binary.Equal (value_of (own 1 5)) (number 2))))
-        ∷ Numbered 5 (set (global 115) (op binary.Plus (op binary.Times (value_of (global 115)) (number 10)) (value_of (own 1 5)))) ∷ []))) ∷ []
+    Numbered 4 (ExitStatement 0 (Some (op binary.Equal (value_of (own 1 5)) (number 2))))
+    ∷ Numbered 5 (set (global 115) (op binary.Plus (op binary.Times (value_of (global 115)) (number 10)) (value_of (own 1 5)))) ∷ []))) ∷ []
 
 -- Outer: loop loop exit Outer; end loop; S := 1; end loop Outer; S := S + 2;
 abbrev pub exits_outer : List StatementTree
 exits_outer =
     Numbered 3 (LoopStatement ForeverScheme (list (
-        Numbered 4 (LoopStatement ForeverScheme (list (Numbered 5 (ExitStatement 1 None) ∷ [])))
-        ∷ Numbered 6 (set (global 115) (number 1)) ∷ [])))
+    Numbered 4 (LoopStatement ForeverScheme (list (Numbered 5 (ExitStatement 1 None) ∷ [])))
+    ∷ Numbered 6 (set (global 115) (number 1)) ∷ [])))
     ∷ Numbered 7 (set (global 115) (op binary.Plus (value_of (global 115)) (number 2))) ∷ []
 
 -- case 7 is when 1 .. 3 | 7 => S := 1; when others => S := 2; end case;
@@ -168,7 +173,7 @@ abbrev pub copying : List StatementTree
 copying =
     Numbered 5 (set (global 115) (number 2))
     ∷ Numbered 6 (LoopStatement (WhileScheme (op binary.Less (value_of (global 115)) (number 10))) (list (
-        Numbered 7 (CallStatement (call 113 2 (in_of (value_of (global 115)) (MoreActuals (VariableActual (global 115) 1 mode.InOut None (Some (range 0 12)) 4) NoActual)))) ∷ []))) ∷ []
+    Numbered 7 (CallStatement (call 113 2 (in_of (value_of (global 115)) (MoreActuals (VariableActual (global 115) 1 mode.InOut None (Some (range 0 12)) 4) NoActual)))) ∷ []))) ∷ []
 
 -- for I in Small range 0 .. 5, where Small is 1 .. 3
 abbrev pub marked : ℕ → ℕ → List StatementTree

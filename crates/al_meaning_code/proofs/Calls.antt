@@ -2,7 +2,7 @@
 use Rattle.std.proofs.Common.{◌≡◌, ◌≢◌, ℕ, suc, ◌+◌, ◌-◌, ◌==◌, ◌<◌, ◌≤◌, ℤ, List, [], ◌∷◌, ◌++◌, Bool, true, false, ◌&&◌, Option, Some, None, Result, Ok, Err, length, nat_le, refl, sym, ◌∙◌, ap, subst, arith, inl, inr, ◌⊎◌, ⊎_elim}
 use Rattle.std.proofs.lemmas.Bool.{cases_lt}
 use Rattle.std.proofs.lemmas.Bool.Decides.{nat_tests}
-use Rattle.std.specs.Prelude.{pos, option_and_then, if◌then◌else◌, IsTrue}
+use Rattle.std.specs.Prelude.{pos, option_and_then, if◌then◌else◌}
 use Rattle.al_base.specs.declared.unit_key.UnitKey.{UnitKey}
 use Rattle.al_view.specs.ViewUses.{link}
 use Rattle.al_view.specs.declared.link.LinkKind.TheVariants as links
@@ -12,6 +12,7 @@ use Rattle.al_view.specs.declared.view.ObjectPlace.{ObjectPlace}
 use Rattle.al_view.specs.declared.view.ObjectPlace.TheVariants as places
 use Rattle.al_view_typed.specs.declared.unit.BodyKind.TheVariants as kinds
 use Rattle.al_view_typed.specs.ExpressionTrees.{CallTree}
+use Rattle.al_view_typed.specs.DeclarationTrees.{DeclarationTree}
 use Rattle.al_view_typed.specs.StatementTrees.{StatementTree}
 use Rattle.al_view_typed.specs.StatementViews.{statements_of}
 use Rattle.al_view_typed.specs.UnitTrees.{BodyTree, UnitTree}
@@ -158,27 +159,17 @@ module _ (objects : List Region) (inside : List Entered) (code : List Step) (lin
 
   -- ---- the call
 
-  module _ (unit : UnitKey) (symbol : Symbol) (first : ℕ) (statements : List StatementTree) (deeper : Calls) (line : UnitKey × ℕ) (st : State) (ends : Target → ℕ) (pc pc1 back place start after before fuel : ℕ) (fits : AreIn (SeenInside (λ x k. V (places.Static x k)) words) C small (statements_of statements)) (m : Machine) (s : Shows linked depth floor V address st.words m)
+  module _ (unit : UnitKey) (symbol : Symbol) (first : ℕ) (declarations_ : List DeclarationTree) (statements : List StatementTree) (line : UnitKey × ℕ) (st : State) (pc pc1 back place start end after fuel : ℕ) (m : Machine) (s : Shows linked depth floor V address st.words m)
       (root_here : fetch code pc ≡ Some (operation.Word kind.Root, pc1)) (call_here : fetch code pc1 ≡ Some (operation.Word (kind.Call place 0), back)) (there : IsThere code back)
-      (enter_here : fetch code place ≡ Some (operation.Word (kind.Enter words), start)) (body : Stands code linked ends start (statements_code (within_depth 1) (statements_of statements))) (home : ends target.Routine ≡ start + size (statements_code (within_depth 1) (statements_of statements)))
-      (marks : AreMarked lines unit before start (statements_code (within_depth 1) (statements_of statements)))
-      (return_here : fetch code (start + size (statements_code (within_depth 1) (statements_of statements))) ≡ Some (operation.Word (kind.Return 0), after))
-      (calls_do : (line : UnitKey × ℕ) (call : CallTree) → C call → (e : State) (ends : Target → ℕ) (pc : ℕ) (n : Machine) → Shows linked 1 (m.top + 3 + words) (SeenInside (λ x k. V (places.Static x k)) words) (callee_address m.top address) e.words n → Stands code linked ends pc (call_code 1 call)
-      → CallRuns objects inside code lines linked 1 (m.top + 3 + words) room (SeenInside (λ x k. V (places.Static x k)) words) (callee_address m.top address) line (at pc n) n (pc + size (call_code 1 call)) fuel (called deeper call e)) where
+      (enter_here : fetch code place ≡ Some (operation.Word (kind.Enter words), start)) (return_here : fetch code end ≡ Some (operation.Word (kind.Return 0), after))
+      (exits : ℕ → ℕ) (home : ℕ) (ended : home ≡ end) (o : Outcome Flow)
+      (body_runs : (n : Machine) → Shows linked 1 (m.top + 3 + words) (SeenInside (λ x k. V (places.Static x k)) words) (callee_address m.top address) (fresh 1 [] st).words n
+      → Runs objects inside code lines linked 1 (m.top + 3 + words) room (SeenInside (λ x k. V (places.Static x k)) words) (callee_address m.top address) exits home line (at start n) n end fuel o) where
     w : IsWithin m
     w = s.within
 
-    abbrev callee_code : List Piece
-    callee_code = statements_code (within_depth 1) (statements_of statements)
-
-    abbrev end : ℕ
-    end = start + size callee_code
-
-    abbrev b : BodyTree
-    b = procedure symbol first words statements
-
     abbrev shaped : Outcome Flow → Type 0
-    shaped o = CallRuns objects inside code lines linked depth floor most V address line (at pc m) m back (suc fuel) (finish unit b st o)
+    shaped o = CallRuns objects inside code lines linked depth floor most V address line (at pc m) m back (suc fuel) (finish unit (procedure symbol first words declarations_ statements) st o)
 
     -- no room
     lacks_any : Exhausts objects inside code (at pc m) m most → (o : Outcome Flow) → shaped o
@@ -222,36 +213,35 @@ module _ (objects : List Region) (inside : List Entered) (code : List Step) (lin
           let step : Leads objects inside code (at end q) (at back z.0) = (1, ap (λ (o : Option At). option_and_then (λ (y : At). Some y) o) (ap (λ (o : Option (Operation × ℕ)). advanced_by objects inside code o q) return_here ∙ ap (λ (r : Result (MachineFlow × Machine) Trap). landed code after r) z.1 ∙ ap (λ (o : Option (Operation × ℕ)). landing o back z.0) there.1)) in
           (z.0, leads_on objects inside code (at pc m) (at start n) (at back z.0) l (leads_on objects inside code (at start n) (at end q) (at back z.0) x.1 step), shown.0, shown.1)
 
-      from_body : (o : Outcome Flow) → Runs objects inside code lines linked 1 (m.top + 3 + words) room (SeenInside (λ x k. V (places.Static x k)) words) (callee_address m.top address) (λ k. ends (target.Loop k)) (ends target.Routine) line (at start n) n end fuel o → shaped o
+      from_body : (o : Outcome Flow) → Runs objects inside code lines linked 1 (m.top + 3 + words) room (SeenInside (λ x k. V (places.Static x k)) words) (callee_address m.top address) exits home line (at start n) n end fuel o → shaped o
       from_body (Gives On e) (inl x) = inl (comes_back e x)
       from_body (Gives On e) (inr x) = inr (exhausts x)
       from_body (Gives (Exits i) e) x = tt
-      from_body (Gives (Returns []) e) (inl x) = inl (comes_back e (x.0, subst (λ (k : ℕ). Leads objects inside code (at start n) (at k x.0)) home x.1, x.2, x.3))
+      from_body (Gives (Returns []) e) (inl x) = inl (comes_back e (x.0, subst (λ (k : ℕ). Leads objects inside code (at start n) (at k x.0)) ended x.1, x.2, x.3))
       from_body (Gives (Returns []) e) (inr x) = inr (exhausts x)
       from_body (Gives (Returns (v ∷ vs)) e) x = inr (exhausts x)
       from_body (Raises e told z) x = raises (table_line (line_or line told)) e x
       from_body (GoesOn z) (inl x) = let e = x.1 in inl (l.0 + x.0, omega arith, x.2, carried_on objects inside code l.0 x.0 (at pc m) (at start n) l.1 ∙ x.3)
       from_body (GoesOn z) (inr x) = inr (exhausts x)
 
-    pub call_runs : shaped (all_done deeper unit 1 fuel (statements_of statements) (fresh 1 [] st))
+    pub call_runs : shaped o
     unfolding exec w
     call_runs = ⊎_elim root_room no_room (cases_lt (m.first + 16384) (m.top + 3))
       where
-        no_room : m.top + 3 ≤ m.first + 16384 → shaped (all_done deeper unit 1 fuel (statements_of statements) (fresh 1 [] st))
+        no_room : m.top + 3 ≤ m.first + 16384 → shaped o
         no_room room3 =
             let one_ = goes objects inside code pc pc1 kind.Root m (rooted_machine m w) root_here (ap on (roots m w room3)) in
             let two : Leads objects inside code (at pc1 (rooted_machine m w)) (at place (called_machine m w back)) = (1, ap (λ (o : Option At). option_and_then (λ (y : At). Some y) o) (ap (λ (o : Option (Operation × ℕ)). advanced_by objects inside code o (rooted_machine m w)) call_here ∙ ap (λ (r : Result (MachineFlow × Machine) Trap). landed code back r) (calls m w place back room3) ∙ ap (λ (o : Option (Operation × ℕ)). landing o place (called_machine m w back)) enter_here)) in
             let to_body : Leads objects inside code (at pc m) (at place (called_machine m w back)) = (one_.0 + 1, carried_on objects inside code one_.0 1 (at pc m) (at pc1 (rooted_machine m w)) one_.1 ∙ two.1) in
             ⊎_elim
-            (λ (lack : m.first + 16384 < m.top + 3 + words). short_frame (at place (called_machine m w back)) to_body (fails objects inside code place start (suc place) (kind.Enter words) (called_machine m w back) exception.Storage enter_here (omega arith) (ap on (enters_not m w back words lack))) lack (all_done deeper unit 1 fuel (statements_of statements) (fresh 1 [] st)))
+            (λ (lack : m.first + 16384 < m.top + 3 + words). short_frame (at place (called_machine m w back)) to_body (fails objects inside code place start (suc place) (kind.Enter words) (called_machine m w back) exception.Storage enter_here (omega arith) (ap on (enters_not m w back words lack))) lack o)
             (λ (fits_ : m.top + 3 + words ≤ m.first + 16384).
             let n = entered_machine m w back words in
             let f = framed_so m w back words fits_ in
             let three = goes objects inside code place start (kind.Enter words) (called_machine m w back) n enter_here (ap on (enters m w back words fits_)) in
             let l : Leads objects inside code (at pc m) (at start n) = (to_body.0 + three.0, carried_on objects inside code to_body.0 three.0 (at pc m) (at place (called_machine m w back)) to_body.1 ∙ three.1) in
-            from_body n l (omega arith) f (all_done deeper unit 1 fuel (statements_of statements) (fresh 1 [] st))
-            (statements_do objects inside code linked lines unit (within_depth 1) deeper (m.top + 3 + words) small room (SeenInside (λ x k. V (places.Static x k)) words) (callee_address m.top address) C (below_ m w s.above) (open_ m w s.above) (apart_ m w s.above) (alike_ m w s.above) tell roomy fuel calls_do (statements_of statements) fits before line (fresh 1 [] st) ends start n (begun_shows m w s.above st n back s f) body marks))
+            from_body n l (omega arith) f o (body_runs n (begun_shows m w s.above st n back s f)))
             (cases_lt (m.first + 16384) (m.top + 3 + words))
 
-        root_room : m.first + 16384 < m.top + 3 → shaped (all_done deeper unit 1 fuel (statements_of statements) (fresh 1 [] st))
-        root_room lack = short_frame (at pc m) (stays objects inside code (at pc m)) (fails objects inside code pc pc1 (suc pc) kind.Root m exception.Storage root_here (omega arith) (ap on (roots_not m w lack))) (omega arith) (all_done deeper unit 1 fuel (statements_of statements) (fresh 1 [] st))
+        root_room : m.first + 16384 < m.top + 3 → shaped o
+        root_room lack = short_frame (at pc m) (stays objects inside code (at pc m)) (fails objects inside code pc pc1 (suc pc) kind.Root m exception.Storage root_here (omega arith) (ap on (roots_not m w lack))) (omega arith) o

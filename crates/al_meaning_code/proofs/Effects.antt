@@ -18,7 +18,7 @@ use Rattle.al_machine.specs.declared.instruction.Instruction.TheVariants as kind
 use Rattle.al_machine.specs.Arithmetic.{operated, changed}
 use Rattle.al_machine.specs.Machine.{Machine, IsWithin}
 use Rattle.al_machine.specs.Stack.{word_at, holds, has_room, put, put_result, pushed, checked, binary, unary}
-use Rattle.al_machine.specs.Memory.{is_open, copied, reached, load_from, loaded, store_to, stored}
+use Rattle.al_machine.specs.Memory.{is_open, copied, reached, load_from, loaded, store_to, stored, zeroed, zero_at, cleared}
 use Rattle.al_machine.specs.Frames.{followed, own_place, framed, push_address}
 use Rattle.al_machine.specs.Table.{on, exec}
 use Rattle.al_meaning_code.proofs.Memories.{one_copied}
@@ -90,6 +90,17 @@ module _ (objects : List Region) (inside : List Entered) (m : Machine) where
       let moved : copied p.memory (m.top - 1) 1 place ≡ set p.memory place (word_at m (m.top - 1)) =
       sym (one_copied p.memory (m.top - 1) place (omega arith) (omega arith)) ∙ ap (λ (z : ℤ). set p.memory place z) (push.kept (m.top - 1) (omega arith)) in
       rw (held, top, long, opened, two, moved) refl
+
+  -- zeros go to the address on top
+  pub clears : (p : Machine) (place : ℕ) → IsWithin m → Pushed m p (pos place) → place < m.top → is_open objects inside 0 place 1 ≡ true → cleared objects inside 1 p ≡ Ok (record p { memory = zeroed p.memory place 1; top = m.top })
+  unfolding cleared
+  clears p place within push below opened =
+      let o = within.own in let s = within.stack in let r = within.room in let pt = push.top in let pf = push.first in let pr = push.frame in let pl = push.long in
+      let held : holds 1 p ≡ true = grind (arith, nat_tests) in
+      let down : p.top - 1 ≡ m.top = omega arith in
+      let top : word_at p (p.top - 1) ≡ pos place = ap (λ (k : ℕ). word_at p k) down ∙ push.word in
+      let long : nat_le (place + 1) (length p.memory) ≡ true = grind (arith, nat_tests) in
+      rw (held, top, long, opened, down) refl
 
 -- an operator on the two words above m
 pub operates : (o : BinaryOperator) (m n p : Machine) (a b : ℤ) → IsWithin m → Pushed m n a → Pushed n p b → binary o p ≡ put_result m.top p (operated o a b)

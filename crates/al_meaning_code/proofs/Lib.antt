@@ -11,8 +11,11 @@ mod CallSteps
 mod Meant
 mod Marked
 mod Unmarked
+mod Doing
+mod Declared
 mod Statements
 mod Agreed
 mod Given
 mod Calls
 mod Families
+mod Premises

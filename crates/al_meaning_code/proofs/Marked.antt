@@ -66,6 +66,18 @@ module _ (lines : Lines) (unit : UnitKey) where
   marked_back line pc (Leaving w t ∷ ps) qs h = marked_moved (line_after line ps) _ (pc + size (Leaving w t ∷ ps)) qs (omega (arith, size_cons (Leaving w t) ps)) (marked_back line (pc + piece_size (Leaving w t)) ps qs h.1)
   marked_back line pc (Begins s ∷ ps) qs h = marked_moved (line_after line ps) _ (pc + size (Begins s ∷ ps)) qs (omega (arith, size_cons (Begins s) ps)) (marked_back line (pc + piece_size (Begins s)) ps qs h.1)
 
+  line_stays : (line : ℕ) (ps : List Piece) → HasNoMark ps → line_after line ps ≡ line
+  line_stays line [] n = refl
+  line_stays line (Line l ∷ ps) n = absurd n
+  line_stays line (Whole i ∷ ps) n = line_stays line ps n
+  line_stays line (Using i s ∷ ps) n = line_stays line ps n
+  line_stays line (Leaving w t ∷ ps) n = line_stays line ps n
+  line_stays line (Begins s ∷ ps) n = line_stays line ps n
+
+  -- what follows pieces without a mark
+  pub marked_beyond : (line pc : ℕ) (ps qs : List Piece) → HasNoMark ps → AreMarked lines unit line pc (ps ++ qs) → AreMarked lines unit line (pc + size ps) qs
+  marked_beyond line pc ps qs n h = subst (λ (l : ℕ). AreMarked lines unit l (pc + size ps) qs) (line_stays line ps n) (marked_back line pc ps qs h)
+
   pub marked_opened : (c : Construct) (line pc : ℕ) (ps : List Piece) → AreMarked lines unit line pc (closed c ps) → AreMarked lines unit line pc ps
   marked_opened c line pc [] h = h
   marked_opened c line pc (Line n ∷ ps) h = marked_opened c n pc ps h

@@ -30,7 +30,7 @@ use Rattle.al_meaning_code.specs.Subset.{IsVariable, OrStatic, IsIn, IsInForm, I
 use Rattle.al_meaning_code.proofs.Marked.{HasNoMark, no_mark-append, no_mark-closed}
 
 module _ (V : ObjectPlace → Type 0) (depth : ℕ) where
-  place_unmarked : (p : ObjectPlace) → HasNoMark (place_code links.Data depth p)
+  pub place_unmarked : (p : ObjectPlace) → HasNoMark (place_code links.Data depth p)
   place_unmarked (places.Frame d w) = tt
   place_unmarked (places.Static s w) = tt
 

@@ -1,5 +1,5 @@
 -- The laws: what the code of labelled trees does is what they mean.
-use Rattle.std.specs.Prelude.{◌≡◌, ◌≢◌, ℕ, zero, suc, ◌+◌, ◌<◌, ◌≤◌, ⊤, ℤ, Bool, true, false, List, [], ◌∷◌, ◌++◌, length, Option, Some, None, Result, Ok, Err, IsTrue}
+use Rattle.std.specs.Prelude.{◌≡◌, ◌≢◌, ℕ, zero, suc, ◌+◌, ◌<◌, ◌≤◌, ⊤, ℤ, Bool, true, false, List, [], ◌∷◌, ◌++◌, length, Option, Some, None, Result, Ok, Err}
 use Rattle.al_base.specs.declared.unit_key.UnitKey.{UnitKey}
 use Rattle.al_view.specs.ViewUses.{link}
 use Rattle.al_view.specs.declared.link.LinkKind.TheVariants as links
@@ -12,6 +12,7 @@ use Rattle.al_view_typed.specs.declared.unit.BodyKind.TheVariants as kinds
 use Rattle.al_view_typed.specs.ExpressionTrees.{TypedTree, CallTree}
 use Rattle.al_view_typed.specs.ExpressionTrees.ActualsTree.{NoActual}
 use Rattle.al_view_typed.specs.ExpressionTrees.CallTree.{Called}
+use Rattle.al_view_typed.specs.DeclarationTrees.{DeclarationTree}
 use Rattle.al_view_typed.specs.StatementTrees.{StatementTree, StatementsTree}
 use Rattle.al_view_typed.specs.StatementViews.{statements_of}
 use Rattle.al_view_typed.specs.UnitTrees.{BodyTree, UnitTree}
@@ -48,11 +49,11 @@ use Rattle.al_meaning.specs.Scalars.{ConstraintError, ProgramError, Meaningless,
 use Rattle.al_meaning.specs.States.{State, same_place}
 use Rattle.al_meaning.specs.Expressions.{Calls, value, called}
 use Rattle.al_meaning.specs.Statements.{all_done}
-use Rattle.al_meaning.specs.Partitions.{body_of, calls_of}
+use Rattle.al_meaning.specs.Partitions.{body_of, calls_of, start, meaning}
 use Rattle.al_meaning_code.specs.Running.{Lines, at}
 use Rattle.al_meaning_code.specs.Standing.{Stands, AreMarked}
 use Rattle.al_meaning_code.specs.Showing.{Shows}
-use Rattle.al_meaning_code.specs.Subset.{needs, IsScalar, IsIn, AreIn}
+use Rattle.al_meaning_code.specs.Subset.{needs, IsScalar, IsIn, AreIn, AreDeclared}
 use Rattle.al_meaning_code.specs.Effects.{Evaluates, Runs, CallRuns}
 
 -- ---- operators
@@ -114,10 +115,10 @@ pub record Setting : Type 0 where
   pub floor : ℕ
 
 abbrev pub Globals : Setting → Symbol → ℕ → Type 0
-Globals c s w = IsTrue (c.is_global s w)
+Globals c s w = c.is_global s w ≡ true
 
 abbrev pub Among : Setting → ObjectPlace → Type 0
-Among c = Joined (λ d w. IsTrue (c.is_local d w)) (Globals c)
+Among c = Joined (λ d w. c.is_local d w ≡ true) (Globals c)
 
 -- variables lie apart from each other; the task may touch them and what is above them; those of frames are of some body
 pub record IsLaidOut (c : Setting) : Type 0 where
@@ -144,46 +145,48 @@ ValuesAreGiven =
     → IsIn (Among c) t → ShowsIn c st m → StandsIn c ends pc (value_of c.depth t) → AreMarked c.lines unit line pc (value_of c.depth t)
     → Evaluates c.objects c.inside c.code c.lines (unit, line) (at pc m) m (pc + size (value_of c.depth t)) (needs t) st (value calls t st)
 
--- ---- procedures of library level without parameters and declarations, which call each other
+-- ---- procedures of library level without parameters, which call each other
 
-abbrev pub procedure : Symbol → ℕ → ℕ → List StatementTree → BodyTree
-procedure symbol line frame statements = record {
+abbrev pub procedure : Symbol → ℕ → ℕ → List DeclarationTree → List StatementTree → BodyTree
+procedure symbol line frame declarations statements = record {
   symbol = symbol;
   kind = kinds.Procedure 0;
   depth = 1;
   formals = [];
-  inside = record { line = line; frame = frame; declarations = []; statements = statements };
+  inside = record { line = line; frame = frame; declarations = declarations; statements = statements };
 }
 
 abbrev pub call_of : Symbol → CallTree
 call_of symbol = Called (callee.Subprogram symbol 0) None 0 NoActual
 
 abbrev pub IsCallOf : (Symbol → Bool) → CallTree → Type 0
-IsCallOf members call = (symbol : Symbol) × (call ≡ call_of symbol) × IsTrue (members symbol)
+IsCallOf members call = (symbol : Symbol) × (call ≡ call_of symbol) × (members symbol ≡ true)
 
 -- their statements see the words of their frame, and the objects of units
 abbrev pub SeenInside : (Symbol → ℕ → Type 0) → ℕ → ObjectPlace → Type 0
 SeenInside G frame = Joined (λ d w. (d ≡ 1) × (3 ≤ w) × (w < 3 + frame)) G
 
--- one of them: it is the body of its symbol, its frame has at most so many words, its statements call such procedures alone and no value of theirs
--- needs more than `room`; and its code stands where its symbol leads
+-- one of them: it is the body of its symbol, its frame has at most so many words, its objects are of one word, its statements call such procedures
+-- alone and no value needs more than `room`; and its code stands where its symbol leads
 pub record IsMember (c : Setting) (us : List UnitTree) (words room : ℕ) (members : Symbol → Bool) (symbol : Symbol) : Type 0 where
   pub unit : UnitKey
   pub line : ℕ
   pub frame : ℕ
+  pub declarations : List DeclarationTree
   pub statements : List StatementTree
-  pub found : body_of us symbol ≡ Some (unit, procedure symbol line frame statements)
+  pub found : body_of us symbol ≡ Some (unit, procedure symbol line frame declarations statements)
   pub small : frame ≤ words
+  pub declares : AreDeclared (SeenInside (Globals c) frame) (IsCallOf members) room declarations
   pub fits : AreIn (SeenInside (Globals c) frame) (IsCallOf members) room (statements_of statements)
   pub place : ℕ
   pub leads : c.linked (link links.Code symbol) (instr.Call 0 0) ≡ instr.Call place 0
   pub ends : Target → ℕ
-  pub stands : StandsIn c ends place (procedure_code (procedure symbol line frame statements) 0)
+  pub stands : StandsIn c ends place (procedure_code (procedure symbol line frame declarations statements) 0)
   pub before : ℕ
-  pub marked : AreMarked c.lines unit before place (procedure_code (procedure symbol line frame statements) 0)
+  pub marked : AreMarked c.lines unit before place (procedure_code (procedure symbol line frame declarations statements) 0)
 
 abbrev pub IsFamily : Setting → List UnitTree → ℕ → ℕ → (Symbol → Bool) → Type 0
-IsFamily c us words room members = (symbol : Symbol) → IsTrue (members symbol) → IsMember c us words room members symbol
+IsFamily c us words room members = (symbol : Symbol) → members symbol ≡ true → IsMember c us words room members symbol
 
 -- the words of the stack that calls need which are so many deep
 abbrev pub stack_for : ℕ → ℕ → ℕ → ℕ
@@ -194,9 +197,24 @@ stack_for words room (suc n) = 3 + words + stack_for words room n
 abbrev pub CallsAreDone : Type 0
 CallsAreDone =
     (c : Setting) → IsLaidOut c → (us : List UnitTree) (words room : ℕ) (members : Symbol → Bool) → IsFamily c us words room members
-    → (n : ℕ) (symbol : Symbol) → IsTrue (members symbol) → (line : UnitKey × ℕ) (st : State) (ends : Target → ℕ) (pc : ℕ) (m : Machine)
+    → (n : ℕ) (symbol : Symbol) → members symbol ≡ true → (line : UnitKey × ℕ) (st : State) (ends : Target → ℕ) (pc : ℕ) (m : Machine)
     → ShowsIn c st m → StandsIn c ends pc (call_code c.depth (call_of symbol))
     → CallRuns c.objects c.inside c.code c.lines c.linked c.depth c.floor (stack_for words room n) (Among c) c.address line (at pc m) m (pc + size (call_code c.depth (call_of symbol))) (suc n) (called (calls_of us n) (call_of symbol) st)
+
+-- ---- partitions
+
+-- nothing is done when the items are elaborated
+abbrev pub AreWithoutElaboration : List UnitTree → Type 0
+AreWithoutElaboration [] = ⊤
+AreWithoutElaboration (u ∷ us) = (u.elaboration ≡ None) × AreWithoutElaboration us
+
+-- before a machine that shows the state at the start, a call of the main subprogram does what the partition means
+abbrev pub PartitionsAreDone : Type 0
+PartitionsAreDone =
+    (c : Setting) → IsLaidOut c → (us items : List UnitTree) (words room : ℕ) (members : Symbol → Bool) → IsFamily c us words room members → AreWithoutElaboration items
+    → (n : ℕ) (main : Symbol) → members main ≡ true → (line : UnitKey × ℕ) (ends : Target → ℕ) (pc : ℕ) (m : Machine)
+    → ShowsIn c start m → StandsIn c ends pc (call_code c.depth (call_of main))
+    → CallRuns c.objects c.inside c.code c.lines c.linked c.depth c.floor (stack_for words room n) (Among c) c.address line (at pc m) m (pc + size (call_code c.depth (call_of main))) (suc n) (meaning us items main n)
 
 -- ---- statements
 

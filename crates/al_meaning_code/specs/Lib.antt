@@ -4,3 +4,4 @@ pub mod Showing
 pub mod Subset
 pub mod Effects
 pub mod Laws
+pub mod Example

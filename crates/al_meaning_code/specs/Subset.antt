@@ -1,6 +1,6 @@
 -- The trees that the laws speak of, over some variables: scalar expressions without calls, assignments to whole scalar variables, if statements,
--- loops without a parameter, exits, returns from procedures, some calls. And how many words of the stack they need.
-use Rattle.std.specs.Prelude.{◌≡◌, ℕ, ◌+◌, ◌≤◌, ⊤, max, Option, Some, None}
+-- loops without a parameter, exits, returns from procedures, some calls, blocks with objects of one word. And how many words of the stack they need.
+use Rattle.std.specs.Prelude.{◌≡◌, ℕ, ◌+◌, ◌≤◌, ⊤, max, List, [], ◌∷◌, Option, Some, None}
 use Rattle.al_view.specs.declared.types.StaticValue.{StaticValue}
 use Rattle.al_view.specs.declared.view.ObjectPlace.{ObjectPlace}
 use Rattle.al_view_typed.specs.declared.label.BinaryOperator.{BinaryOperator}
@@ -10,6 +10,7 @@ use Rattle.al_view_typed.specs.ExpressionTrees.TypedTree.{Labelled}
 use Rattle.al_view_typed.specs.ExpressionTrees.FormTree.{LiteralForm, NamedForm, UnaryForm, BinaryForm, ShortCircuitForm, MembershipForm, ConvertedForm, AggregateForm, OthersForm, CallForm, ClockForm}
 use Rattle.al_view_typed.specs.ExpressionTrees.NameTree.{ObjectName, ComponentName, IndexedName}
 use Rattle.al_view_typed.specs.ExpressionTrees.ValueTree.{Checked}
+use Rattle.al_view_typed.specs.DeclarationTrees.{DeclarationTree, DeclarationFormTree, Objects, Subprogram, Elaborated, SingleTask, SingleProtected}
 use Rattle.al_view_typed.specs.StatementTrees.{SchemeTree, StatementTree, StatementsTree, StatementFormTree, BranchTree, BranchesTree}
 use Rattle.al_view_typed.specs.StatementTrees.SchemeTree.{ForeverScheme, WhileScheme, ForScheme}
 use Rattle.al_view_typed.specs.StatementTrees.StatementTree.{Numbered}
@@ -83,6 +84,23 @@ module _ (V : ObjectPlace → Type 0) (C : CallTree → Type 0) (room : ℕ) whe
   IsInScheme (WhileScheme condition) = IsIn V condition × (needs condition ≤ room)
   IsInScheme (ForScheme is_reverse low high mark parameter last) = ⊥
 
+  -- objects of one word, with a value or without
+  abbrev pub AreVariables : List ObjectPlace → Type 0
+  AreVariables [] = ⊤
+  AreVariables (p ∷ ps) = V p × AreVariables ps
+
+  abbrev pub IsInitial : Option ValueTree → Type 0
+  IsInitial None = 1 ≤ room
+  IsInitial (Some x) = IsInValue V x × (needs_value x ≤ room)
+
+  abbrev pub IsInDeclaration : DeclarationFormTree → Type 0
+  IsInDeclaration (Objects objects words value) = AreVariables objects × (words ≡ 1) × IsInitial value
+  IsInDeclaration _ = ⊥
+
+  abbrev pub AreDeclared : List DeclarationTree → Type 0
+  AreDeclared [] = ⊤
+  AreDeclared (d ∷ ds) = IsInDeclaration d.form × AreDeclared ds
+
   abbrev mutual
     pub IsInStatement : StatementTree → Type 0
     IsInStatement (Numbered line form) = IsInStatementForm form
@@ -99,6 +117,7 @@ module _ (V : ObjectPlace → Type 0) (C : CallTree → Type 0) (room : ℕ) whe
     IsInStatementForm (ExitStatement loops condition) = IsInExit condition
     IsInStatementForm (ReturnStatement None words) = ⊤
     IsInStatementForm (CallStatement call) = C call
+    IsInStatementForm (BlockStatement declarations statements) = AreDeclared declarations × AreIn statements
     IsInStatementForm _ = ⊥
 
     pub BranchesIn : BranchesTree → Type 0

@@ -1,5 +1,6 @@
 // Laws of the code, each a function that does nothing and whose contract is the law.
-ghost use Rattle.al_meaning_code.specs.Laws.{CallsAreDone, OperatorsAgree, PiecesStand, StatementsAreDone, ValuesAreGiven};
+ghost use Rattle.al_meaning_code.specs.Example.{PremisesAreMet};
+ghost use Rattle.al_meaning_code.specs.Laws.{CallsAreDone, OperatorsAgree, PartitionsAreDone, PiecesStand, StatementsAreDone, ValuesAreGiven};
 
 use al_code::trees_tell_code;
 
@@ -18,7 +19,7 @@ pub fn values_are_given()
     ensures { ValuesAreGiven }
 {}
 
-/// The code of statements does what these mean (ARM 5): it leads to their end, to the exit of a loop or to the end of the body, and the variables hold
+/// The code of statements, which may call such procedures, does what these mean (ARM 5): it leads to their end, to the exit of a loop or to the end of the body, and the variables hold
 /// what they hold in the state then; or it raises their exception at its line; or it goes on as they do.
 pub fn statements_are_done()
     ensures { StatementsAreDone }
@@ -26,9 +27,22 @@ pub fn statements_are_done()
     trees_tell_code();
 }
 
-/// A call of a procedure of library level without parameters does what its body means over new words (ARM 6.4).
+/// A call of a procedure of library level without parameters, whose objects are of one word and which calls others like it, does what its body means over
+/// new words (ARM 6.4), so many calls deep.
 pub fn calls_are_done()
     ensures { CallsAreDone }
+{
+    trees_tell_code();
+}
+
+/// What the laws require is met: by `X := X + 1` in the frame of a main procedure, before a machine whose words are 0.
+pub fn premises_are_met()
+    ensures { PremisesAreMet }
+{}
+
+/// A partition of such procedures, whose items elaborate nothing, is run as it means (ARM 10.2).
+pub fn partitions_are_done()
+    ensures { PartitionsAreDone }
 {
     trees_tell_code();
 }
