@@ -125,7 +125,7 @@ def apply():
         print(f"{name}: FAILED: {LIST.name} has it, and edits/ doesn't")
         failed += 1
     for crate in sorted({it.partition("/")[0] for it in there} - {it.partition("/")[0] for it in listed}):
-        print(f"{crate}: {LIST.name} has no wrong body of it yet (drafts/wrong-bodies-to-try.txt)")
+        print(f"{crate}: {LIST.name} has no wrong body of it yet")
     for it in found:
         try:
             it.put_into({})
