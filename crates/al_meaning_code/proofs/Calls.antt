@@ -47,7 +47,7 @@ use Rattle.al_machine.specs.Memory.{is_open}
 use Rattle.al_machine.specs.Stack.{word_at}
 use Rattle.al_machine.specs.Table.{on, exec}
 use Rattle.al_meaning.specs.Scalars.{Failure, ConstraintError, ProgramError, Meaningless}
-use Rattle.al_meaning.specs.States.{State, Outcome, Gives, Raises, GoesOn, next, give, Words, same_place}
+use Rattle.al_meaning.specs.States.{further, State, Outcome, Gives, Raises, GoesOn, next, give, Words, same_place}
 use Rattle.al_meaning.specs.Expressions.{Calls, called}
 use Rattle.al_meaning.specs.Statements.{Flow, On, Exits, Returns, all_done}
 use Rattle.al_meaning.specs.Partitions.{is_inside, fresh, restored, ended_in, given_back, found_body, body_of, calls_of}
@@ -77,7 +77,7 @@ inside_one : (d : ℕ) → 1 ≤ d → nat_le 1 d ≡ true
 inside_one d h = grind (arith, nat_tests)
 
 module _ (objects : List Region) (inside : List Entered) (code : List Step) (lines : Lines) (linked : LinkSymbol → Instr → Instr) (depth floor small room words most : ℕ) (V : ObjectPlace → Type 0) (address : ObjectPlace → ℕ) (C : CallTree → Type 0)
-    (below : (p : ObjectPlace) → V p → address p < floor) (opened_ : (p : ObjectPlace) → V p → is_open objects inside 0 (address p) 1 ≡ true)
+    (below : (p : ObjectPlace) → V p → address p < floor) (opened_ : (p : ObjectPlace) → V p → is_open objects inside 0 (address p) 1 ≡ true) (linear : (p : ObjectPlace) (k : ℕ) → V p → V (further p k) → address (further p k) ≡ address p + k)
     (apart : (p q : ObjectPlace) → V p → V q → same_place p q ≡ false → address p ≢ address q) (alike : (p q : ObjectPlace) → V p → V q → same_place p q ≡ true → address p ≡ address q)
     (nested : (d w : ℕ) → V (places.Frame d w) → 1 ≤ d) (free : (k : ℕ) → floor ≤ k → is_open objects inside 0 k 1 ≡ true) (tell : TreesTellCode) (roomy : small ≤ room) (fit : 3 + words + room ≤ most) where
   abbrev Caller : State → Machine → Type 0
@@ -99,6 +99,10 @@ module _ (objects : List Region) (inside : List Entered) (code : List Step) (lin
     pub open_ : (p : ObjectPlace) → Mine p → is_open objects inside 0 (place_of p) 1 ≡ true
     open_ (places.Frame d k) h = free (m.top + k) (omega arith)
     open_ (places.Static s k) h = opened_ (places.Static s k) h
+
+    pub linear_ : (p : ObjectPlace) (k : ℕ) → Mine p → Mine (further p k) → place_of (further p k) ≡ place_of p + k
+    linear_ (places.Frame d w) k h i = omega arith
+    linear_ (places.Static x w) k h i = linear (places.Static x w) k h i
 
     pub apart_ : (p q : ObjectPlace) → Mine p → Mine q → same_place p q ≡ false → place_of p ≢ place_of q
     apart_ (places.Frame d k) (places.Frame e j) h i diff = λ same.

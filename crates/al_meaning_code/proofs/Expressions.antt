@@ -56,7 +56,7 @@ use Rattle.al_machine.specs.Bursts.{At}
 use Rattle.al_machine.specs.Frames.{followed, own_place, framed, push_address}
 use Rattle.al_machine.specs.Table.{on, exec}
 use Rattle.al_meaning.specs.Scalars.{Failure, ConstraintError, ProgramError, Meaningless, Valued, within, number_of, truth_of, with_truth, applied, applied_to, stepped}
-use Rattle.al_meaning_code.proofs.Plain.{then_value, Variables, or_static, decided, named, value, value_of_form, converted, checked_value}
+use Rattle.al_meaning_code.proofs.Plain.{then_value, Variables, or_static, decided, value, value_of_form, converted, checked_value}
 use Rattle.al_meaning_code.proofs.Machines.{leads_on, stays, traps_after, goes, fails, size_cons, size-append}
 use Rattle.al_meaning_code.specs.Running.{at, Leads, Traps}
 use Rattle.al_meaning_code.proofs.Effects.{within_put, put_pushed, self_pushed, pushes, pushes_not, loads, operates, changes, checks}
@@ -89,9 +89,24 @@ module _ (objects : List Region) (inside : List Entered) (code : List Step) wher
   Ends a from m to need (Err Meaningless) = ⊤
 
   -- short of room further on
-  short_after : (a b : At) (n m : Machine) (from to from' to' need need' : ℕ) → n.first ≡ m.first → n.top + need ≤ m.top + need' → from' ≤ from → to ≤ to' → Leads objects inside code a b → Short b from n to need → Short a from' m to' need'
+  pub short_after : (a b : At) (n m : Machine) (from to from' to' need need' : ℕ) → n.first ≡ m.first → n.top + need ≤ m.top + need' → from' ≤ from → to ≤ to' → Leads objects inside code a b → Short b from n to need → Short a from' m to' need'
   short_after a b n m from to from' to' need need' first room low high l s =
       let lack = s.0 in (omega arith, traps_after objects inside code a b from' to' from to exception.Storage low high l s.1)
+
+  -- short of room, whatever is meant
+  pub short_any : (a : At) (m : Machine) (from to need : ℕ) (o : Valued) → Short a from m to need → Ends a from m to need o
+  short_any a m from to need (Ok v) s = inr s
+  short_any a m from to need (Err ConstraintError) s = inr s
+  short_any a m from to need (Err ProgramError) s = inr s
+  short_any a m from to need (Err Meaningless) s = tt
+
+  -- a failure, as seen from before and over more code
+  pub fails_on : (a b : At) (n m : Machine) (from to from' to' need need' : ℕ) (f : Failure) → n.first ≡ m.first → n.top + need ≤ m.top + need' → from' ≤ from → to ≤ to' → Leads objects inside code a b → Ends b from n to need (Err f) → Ends a from' m to' need' (Err f)
+  fails_on a b n m from to from' to' need need' ConstraintError first room low high l (inl t) = inl (traps_after objects inside code a b from' to' from to exception.Constraint low high l t)
+  fails_on a b n m from to from' to' need need' ConstraintError first room low high l (inr s) = inr (short_after a b n m from to from' to' need need' first room low high l s)
+  fails_on a b n m from to from' to' need need' ProgramError first room low high l (inl t) = inl (traps_after objects inside code a b from' to' from to exception.Program low high l t)
+  fails_on a b n m from to from' to' need need' ProgramError first room low high l (inr s) = inr (short_after a b n m from to from' to' need need' first room low high l s)
+  fails_on a b n m from to from' to' need need' Meaningless first room low high l x = tt
 
   pub ends_after : (a b : At) (m : Machine) (from from' to need : ℕ) (o : Valued) → from' ≤ from → Leads objects inside code a b → Ends b from m to need o → Ends a from' m to need o
   ends_after a b m from from' to need (Ok v) low l (inl x) = inl (x.0, leads_on objects inside code a b (at to x.0) l x.1, x.2)

@@ -42,6 +42,6 @@ pub values_are_given : ValuesAreGiven
 values_are_given c laid calls unit line t st ends pc m is shows stands marks =
     let to = pc + size (value_of c.depth t) in
     let of_line = one_line c.lines unit line pc (value_of c.depth t) (value_unmarked (Among c) c.depth t is) marks in
-    let ends_ = value_gives c.objects c.inside c.code c.linked c.depth c.floor (Among c) c.address laid.below laid.opens st.words t is ends pc m shows stands in
+    let ends_ = value_gives c.objects c.inside c.code c.linked c.depth c.floor (Among c) c.address laid.below laid.opens laid.linear st.words t is ends pc m shows stands in
     subst (λ (o : Outcome Words). Evaluates c.objects c.inside c.code c.lines (unit, line) (at pc m) m to (needs t) st o) (sym (value_meant calls (Among c) st t is))
     (evaluates c unit line (at pc m) m pc to (needs t) st of_line (plain.value st.words t) ends_)

@@ -46,7 +46,7 @@ use Rattle.al_machine.specs.Code.{steps_from}
 use Rattle.al_machine.specs.Machine.{Machine}
 use Rattle.al_machine.specs.Memory.{is_open}
 use Rattle.al_meaning.specs.Scalars.{ConstraintError, ProgramError, Meaningless, Valued, applied, applied_to}
-use Rattle.al_meaning.specs.States.{State, same_place}
+use Rattle.al_meaning.specs.States.{State, same_place, further}
 use Rattle.al_meaning.specs.Expressions.{Calls, value, called}
 use Rattle.al_meaning.specs.Statements.{all_done}
 use Rattle.al_meaning.specs.Partitions.{body_of, calls_of, start, meaning}
@@ -120,10 +120,11 @@ Globals c s w = c.is_global s w ≡ true
 abbrev pub Among : Setting → ObjectPlace → Type 0
 Among c = Joined (λ d w. c.is_local d w ≡ true) (Globals c)
 
--- variables lie apart from each other; the task may touch them and what is above them; those of frames are of some body
+-- the words of an object lie one after the other, and variables apart from each other; the task may touch them and what is above them; those of frames are of some body
 pub record IsLaidOut (c : Setting) : Type 0 where
   pub below : (p : ObjectPlace) → Among c p → c.address p < c.floor
   pub opens : (p : ObjectPlace) → Among c p → is_open c.objects c.inside 0 (c.address p) 1 ≡ true
+  pub linear : (p : ObjectPlace) (k : ℕ) → Among c p → Among c (further p k) → c.address (further p k) ≡ c.address p + k
   pub apart : (p q : ObjectPlace) → Among c p → Among c q → same_place p q ≡ false → c.address p ≢ c.address q
   pub alike : (p q : ObjectPlace) → Among c p → Among c q → same_place p q ≡ true → c.address p ≡ c.address q
   pub nested : (d w : ℕ) → Among c (places.Frame d w) → 1 ≤ d
