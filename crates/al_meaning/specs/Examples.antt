@@ -1,9 +1,8 @@
 -- Small programs, and what they mean. The values and the exceptions are those of runs of the same programs through GNAT, but for the actual that is named
 -- twice; the lines are those of the statements.
-use Rattle.std.specs.Prelude.{◌≡◌, ℕ, ℤ, pos, negsuc, true, false, List, [], ◌∷◌, Option, Some, None, Result, Ok, Err}
+use Rattle.std.specs.Prelude.{◌≡◌, ℕ, pos, negsuc, true, false, List, [], ◌∷◌, Option, Some, None, Ok, Err}
 use Rattle.al_base.specs.declared.unit_key.UnitKey.{UnitKey}
 use Rattle.al_base.specs.declared.unit_key.UnitKind.TheVariants.{Body}
-use Rattle.al_base.specs.declared.place.Place.{Place}
 use Rattle.al_view.specs.declared.symbol.Symbol.{Symbol}
 use Rattle.al_view.specs.declared.types.Bounds.{Bounds}
 use Rattle.al_view.specs.declared.view.Mode.TheVariants as mode
@@ -16,7 +15,7 @@ use Rattle.al_view_typed.specs.declared.label.ExpressionType.TheVariants.{RootIn
 use Rattle.al_view_typed.specs.declared.unit.BodyKind.{BodyKind}
 use Rattle.al_view_typed.specs.declared.unit.BodyKind.TheVariants as kinds
 use Rattle.al_view_typed.specs.declared.unit.FormalWords.{FormalWords}
-use Rattle.al_view_typed.specs.ExpressionTrees.{TypedTree, FormTree, NameTree, ValueTree, ActualTree, ActualsTree, CallTree}
+use Rattle.al_view_typed.specs.ExpressionTrees.{TypedTree, FormTree, NameTree, ActualsTree, CallTree}
 use Rattle.al_view_typed.specs.ExpressionTrees.FormTree.{LiteralForm, NamedForm, BinaryForm, CallForm}
 use Rattle.al_view_typed.specs.ExpressionTrees.TypedTree.{Labelled}
 use Rattle.al_view_typed.specs.ExpressionTrees.NameTree.{ObjectName, IndexedName}
@@ -27,7 +26,7 @@ use Rattle.al_view_typed.specs.ExpressionTrees.CallTree.{Called}
 use Rattle.al_view_typed.specs.StatementTrees.{StatementTree, StatementsTree, StatementFormTree}
 use Rattle.al_view_typed.specs.StatementTrees.SchemeTree.{ForeverScheme, WhileScheme, ForScheme}
 use Rattle.al_view_typed.specs.StatementTrees.StatementTree.{Numbered}
-use Rattle.al_view_typed.specs.StatementTrees.StatementsTree.{NoStatement, MoreStatements}
+use Rattle.al_view_typed.specs.StatementTrees.StatementsTree.{NoStatement}
 use Rattle.al_view_typed.specs.StatementTrees.StatementFormTree.{AssignmentStatement, CallStatement, CaseStatement, ExitStatement, IfStatement, LoopStatement, ReturnStatement}
 use Rattle.al_view_typed.specs.StatementTrees.BranchTree.{Branch}
 use Rattle.al_view_typed.specs.StatementTrees.BranchesTree.{NoBranch, MoreBranches}
@@ -35,7 +34,7 @@ use Rattle.al_view_typed.specs.StatementTrees.AlternativeTree.{Alternative}
 use Rattle.al_view_typed.specs.StatementTrees.AlternativesTree.{NoAlternative, MoreAlternatives}
 use Rattle.al_view_typed.specs.StatementViews.{statements_of}
 use Rattle.al_view_typed.specs.UnitTrees.{UnitTree, BodyTree}
-use Rattle.al_meaning.specs.Scalars.{Failure, ConstraintError, ProgramError, Valued, applied}
+use Rattle.al_meaning.specs.Scalars.{Failure, ConstraintError, ProgramError, applied}
 use Rattle.al_meaning.specs.States.{Outcome, Gives, Raises, GoesOn, Words, words_at}
 use Rattle.al_meaning.specs.Partitions.{meaning}
 

@@ -1,19 +1,16 @@
 -- What code does, wherever it stands: assignments, sequences, marks.
-use Rattle.std.proofs.Common.{◌≡◌, ◌≢◌, ℕ, ◌+◌, ◌-◌, ◌<◌, ◌≤◌, ℤ, List, [], ◌∷◌, ◌++◌, Bool, true, false, ◌&&◌, Option, Some, None, Ok, Err, length, refl, sym, ◌∙◌, ap, subst, arith, inl, inr, ◌⊎◌, set, get_or, length-set, get_or-set_same, get_or-set_other}
-use Rattle.std.specs.Prelude.{pos, ◌+ℤ◌, if◌then◌else◌}
-use Rattle.al_view.specs.declared.link.LinkKind.TheVariants as links
+use Rattle.std.proofs.Common.{◌≡◌, ◌≢◌, ℕ, ◌+◌, ◌-◌, ◌<◌, ◌≤◌, ℤ, List, [], ◌∷◌, ◌++◌, Bool, true, false, Option, Some, None, Ok, Err, refl, sym, ◌∙◌, ap, subst, arith, inl, inr, ◌⊎◌, set, length-set, get_or-set_same, get_or-set_other}
+use Rattle.std.specs.Prelude.{pos, if◌then◌else◌}
 use Rattle.al_view.specs.declared.link.LinkSymbol.{LinkSymbol}
 use Rattle.al_view.specs.declared.view.ObjectPlace.{ObjectPlace}
 use Rattle.al_view_typed.specs.ExpressionTrees.{NameTree, ValueTree, CallTree}
-use Rattle.al_view_typed.specs.ExpressionTrees.NameTree.{ObjectName, ComponentName, IndexedName}
-use Rattle.al_view_typed.specs.ExpressionTrees.ValueTree.{Checked}
 use Rattle.al_instr.specs.declared.instruction.Instr.{Instr}
 use Rattle.al_instr.specs.declared.instruction.Instr.TheVariants as instr
 use Rattle.al_instr.specs.declared.numbers.Sized.TheVariants as sized
 use Rattle.al_instr.specs.Codes.{size_of}
 use Rattle.al_code.specs.declared.piece.Target.{Target}
 use Rattle.al_code.specs.Pieces.{Piece, Whole, size, line_word, Line}
-use Rattle.al_code.specs.ExprPieces.{of_size, place_code}
+use Rattle.al_code.specs.ExprPieces.{of_size}
 use Rattle.al_code.specs.Templates.{address_of, checked_code}
 use Rattle.al_link_image.specs.declared.parts.Region.{Region}
 use Rattle.al_machine.specs.declared.regions.Entered.{Entered}
@@ -36,8 +33,8 @@ use Rattle.al_base.specs.declared.unit_key.UnitKey.{UnitKey}
 use Rattle.al_code.specs.LineLaws.{TreesTellCode}
 use Rattle.al_meaning.specs.Scalars.{Failure, ConstraintError, ProgramError, Meaningless, Valued, truth_of}
 use Rattle.al_meaning.specs.States.{further, State, Outcome, Gives, Raises, GoesOn, Act, next, ◌>>=◌, ◌>>◌, give, told_at, at_line, Words, with_words, store, same_place}
-use Rattle.al_meaning.specs.Expressions.{Calls, value, named}
-use Rattle.al_meaning.specs.Statements.{Flow, On, Exits, Returns, flow_on, done, form_done}
+use Rattle.al_meaning.specs.Expressions.{Calls, named}
+use Rattle.al_meaning.specs.Statements.{Flow, On, Exits, Returns, flow_on, form_done}
 use Rattle.al_meaning_code.specs.Running.{Lines, at, Leads, Traps, TrapsAt, Exhausts}
 use Rattle.al_meaning_code.specs.Standing.{Stands, AreOfLine, AreMarked}
 use Rattle.al_meaning_code.specs.Showing.{Pushed, Shows, Near}
@@ -279,7 +276,7 @@ module _ (objects : List Region) (inside : List Entered) (code : List Step) (lin
           (checked_gives objects inside code linked r.depth floor V address below opened_ linear st.words x hx ends pc m s sc)
           (λ f raised. failed f raised)
           (λ v n y. after st ends pc m s v n y ss total (one_line lines unit line (pc + size c) pcode (address_unmarked V r.depth target_ h) (marked_beyond lines unit line pc c pcode (checked_unmarked V r.depth x hx) (marked_front lines unit line pc (c ++ pcode) store_ mk)))
-              (plain.placed st.words target_) (λ q e. variable_in V target_ q h (placed_is st.words target_ q e)) (address_gives objects inside code linked r.depth floor V address below opened_ linear st.words target_ h ends (pc + size c) n (pushed_shows objects inside code linked r.depth floor V address below opened_ linear st.words m n v s y) sp) fits_t)
+          (plain.placed st.words target_) (λ q e. variable_in V target_ q h (placed_is st.words target_ q e)) (address_gives objects inside code linked r.depth floor V address below opened_ linear st.words target_ h ends (pc + size c) n (pushed_shows objects inside code linked r.depth floor V address below opened_ linear st.words m n v s y) sp) fits_t)
         where
           failed : (f : Failure) → RaisesAt objects inside code lines room (unit, line_word line) (at pc m) m f → Ran ends (unit, line) pc m (pc + size ((checked_code r.depth x ++ pcode) ++ of_size sized.Store 1)) fuel (assigned (plain.placed st.words target_) st (Err f))
           failed f raised = raised

@@ -1,27 +1,18 @@
 -- What single instructions leave, told by the words below the top of the stack.
-use Rattle.std.proofs.Common.{◌≡◌, ◌≢◌, ℕ, zero, suc, ◌+◌, ◌-◌, ◌<◌, ◌≤◌, ℤ, List, [], ◌∷◌, ◌++◌, Bool, true, false, cond, ◌&&◌, ◌==◌, Option, Some, None, Result, Ok, Err, length, get_or, set, nat_le, refl, sym, ◌∙◌, ap, subst, arith, inl, inr, ◌⊎◌, length-set, get_or-set_same, get_or-set_other}
-use Rattle.std.proofs.lemmas.List.{set-set}
+use Rattle.std.proofs.Common.{◌≡◌, ◌≢◌, ℕ, ◌+◌, ◌-◌, ◌<◌, ◌≤◌, ℤ, List, true, false, ◌&&◌, Ok, Err, length, set, nat_le, refl, sym, ◌∙◌, ap, arith, length-set, get_or-set_same, get_or-set_other}
 use Rattle.std.proofs.lemmas.Bool.Decides.{nat_tests}
 use Rattle.std.proofs.lemmas.Int.{ints}
-use Rattle.std.specs.Prelude.{pos, negsuc, ◌+ℤ◌, ◌-ℤ◌, ◌*ℤ◌, nat_lt, int_le, if◌then◌else◌}
-use Rattle.std.specs.Ordering.{int_eq}
+use Rattle.std.specs.Prelude.{pos, ◌+ℤ◌, ◌-ℤ◌, ◌*ℤ◌, nat_lt, int_le, if◌then◌else◌}
 use Rattle.al_link_image.specs.declared.parts.Region.{Region}
 use Rattle.al_machine.specs.declared.regions.Entered.{Entered}
 use Rattle.al_machine.specs.declared.instruction.BinaryOperator.{BinaryOperator}
 use Rattle.al_machine.specs.declared.instruction.UnaryOperator.{UnaryOperator}
 use Rattle.al_machine.specs.declared.instruction.Exception.TheVariants as exception
-use Rattle.al_machine.specs.declared.instruction.Flow.{Flow}
-use Rattle.al_machine.specs.declared.instruction.Flow.TheVariants.{On, To}
-use Rattle.al_machine.specs.declared.instruction.Trap.{Trap}
-use Rattle.al_machine.specs.declared.instruction.Trap.TheVariants.{Raised, Stuck}
-use Rattle.al_machine.specs.declared.instruction.Instruction.{Instruction}
-use Rattle.al_machine.specs.declared.instruction.Instruction.TheVariants as kind
+use Rattle.al_machine.specs.declared.instruction.Trap.TheVariants.{Raised}
 use Rattle.al_machine.specs.Arithmetic.{operated, changed}
 use Rattle.al_machine.specs.Machine.{Machine, IsWithin}
 use Rattle.al_machine.specs.Stack.{word_at, holds, has_room, put, put_result, pushed, checked, binary, unary}
-use Rattle.al_machine.specs.Memory.{is_open, copied, reached, load_from, loaded, store_to, stored, zeroed, zero_at, cleared, put_address, offset, indexed}
-use Rattle.al_machine.specs.Frames.{followed, own_place, framed, push_address}
-use Rattle.al_machine.specs.Table.{on, exec}
+use Rattle.al_machine.specs.Memory.{is_open, copied, loaded, stored, zeroed, cleared, put_address, offset, indexed}
 use Rattle.al_meaning_code.proofs.Memories.{one_copied}
 use Rattle.al_meaning_code.specs.Showing.{Pushed}
 

@@ -1,5 +1,5 @@
 -- Calls of procedures that call each other, so many deep.
-use Rattle.std.proofs.Common.{◌≡◌, ◌≢◌, ℕ, zero, suc, ◌+◌, ◌-◌, ◌==◌, ◌<◌, ◌≤◌, List, [], ◌∷◌, ◌++◌, Bool, true, false, ◌&&◌, Option, Some, refl, sym, ◌∙◌, ap, subst, arith, inl, inr, ◌⊎◌, ⊎_elim}
+use Rattle.std.proofs.Common.{◌≡◌, ◌≢◌, ℕ, zero, suc, ◌+◌, ◌<◌, ◌≤◌, List, [], ◌∷◌, ◌++◌, Bool, true, false, Option, Some, refl, sym, ◌∙◌, ap, subst, arith, inl, inr, ⊎_elim}
 use Rattle.std.proofs.lemmas.Bool.{cases_lt}
 use Rattle.al_base.specs.declared.unit_key.UnitKey.{UnitKey}
 use Rattle.al_view.specs.ViewUses.{link}
@@ -42,7 +42,7 @@ use Rattle.al_meaning_code.specs.Effects.{CallRuns}
 use Rattle.al_meaning_code.proofs.Standing.{stands_front, stands_back, opened, size-closed, inner}
 use Rattle.al_meaning_code.proofs.Marked.{marked_front, marked_opened}
 use Rattle.al_meaning_code.proofs.Statements.{statements_do}
-use Rattle.al_meaning_code.specs.Laws.{Joined, Setting, Globals, Among, IsLaidOut, procedure, call_of, IsCallOf, SeenInside, IsMember, IsFamily, stack_for, CallsAreDone, StatementsAreDone, AreWithoutElaboration, PartitionsAreDone}
+use Rattle.al_meaning_code.specs.Laws.{Joined, Setting, Globals, Among, procedure, call_of, IsCallOf, SeenInside, IsFamily, stack_for, CallsAreDone, StatementsAreDone, AreWithoutElaboration, PartitionsAreDone}
 use Rattle.al_meaning_code.proofs.Machines.{goes_once, fails, size_cons}
 use Rattle.al_meaning_code.proofs.Expressions.{plain_some}
 use Rattle.al_meaning_code.proofs.CallSteps.{rooted_machine, roots, roots_not}

@@ -1,5 +1,5 @@
 -- The law of values.
-use Rattle.std.proofs.Common.{◌≡◌, ℕ, ◌+◌, ℤ, List, [], ◌∷◌, Option, Some, None, Result, Ok, Err, refl, sym, ap, subst, inl, inr, ◌⊎◌, arith}
+use Rattle.std.proofs.Common.{ℕ, ◌+◌, Ok, Err, refl, sym, subst, inl, inr}
 use Rattle.al_base.specs.declared.unit_key.UnitKey.{UnitKey}
 use Rattle.al_code.specs.Pieces.{line_word, size}
 use Rattle.al_code.specs.Templates.{value_of}
@@ -9,11 +9,10 @@ use Rattle.al_machine.specs.declared.instruction.Exception.{Exception}
 use Rattle.al_machine.specs.declared.instruction.Exception.TheVariants as exception
 use Rattle.al_meaning.specs.Scalars.{Valued, ConstraintError, ProgramError, Meaningless}
 use Rattle.al_meaning.specs.States.{State, Outcome, Words}
-use Rattle.al_meaning.specs.Expressions.{value}
 use Rattle.al_meaning_code.specs.Running.{at, Traps, TrapsAt, Exhausts}
 use Rattle.al_meaning_code.specs.Standing.{AreOfLine}
 use Rattle.al_meaning_code.specs.Effects.{Evaluates}
-use Rattle.al_meaning_code.specs.Laws.{Setting, Among, IsLaidOut, ValuesAreGiven}
+use Rattle.al_meaning_code.specs.Laws.{Setting, Among, ValuesAreGiven}
 use Rattle.al_meaning_code.specs.Subset.{needs}
 use Rattle.al_meaning_code.proofs.Expressions.{Short, Ends}
 use Rattle.al_meaning_code.proofs.Marked.{one_line}

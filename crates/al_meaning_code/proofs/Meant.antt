@@ -1,5 +1,5 @@
 -- The meaning of an expression of the subset is what it gives by what the variables hold, and it leaves the state as it is.
-use Rattle.std.proofs.Common.{◌≡◌, ◌==◌, ℕ, ℤ, List, [], ◌∷◌, Bool, true, false, Option, Some, None, Result, Ok, Err, length, refl, sym, ◌∙◌, ap}
+use Rattle.std.proofs.Common.{◌≡◌, ◌==◌, ℕ, ℤ, [], ◌∷◌, Bool, true, false, Option, Some, None, Ok, Err, length, refl, ◌∙◌, ap}
 use Rattle.std.specs.Prelude.{pos, int_le, ◌&&◌, if◌then◌else◌}
 use Rattle.al_view.specs.declared.types.Bounds.{Bounds}
 use Rattle.al_view.specs.declared.types.StaticValue.{StaticValue}
@@ -14,8 +14,8 @@ use Rattle.al_view_typed.specs.ExpressionTrees.TypedTree.{Labelled}
 use Rattle.al_view_typed.specs.ExpressionTrees.FormTree.{LiteralForm, NamedForm, UnaryForm, BinaryForm, ShortCircuitForm, MembershipForm, ConvertedForm, AggregateForm, OthersForm, CallForm, ClockForm}
 use Rattle.al_view_typed.specs.ExpressionTrees.NameTree.{ObjectName, ComponentName, IndexedName}
 use Rattle.al_view_typed.specs.ExpressionTrees.ValueTree.{Checked}
-use Rattle.al_meaning.specs.Scalars.{ConstraintError, Valued, Meaningless, truth_of, with_truth, within, applied, applied_to, stepped}
-use Rattle.al_meaning.specs.States.{State, Outcome, Gives, Raises, GoesOn, Act, next, ◌>>=◌, give, Words, one, of_value, of_truth, truth_in, scalar, further, fetched, words_at, checked, raise}
+use Rattle.al_meaning.specs.Scalars.{ConstraintError, Valued, truth_of, with_truth, within, applied, applied_to, stepped}
+use Rattle.al_meaning.specs.States.{State, Outcome, Gives, Raises, Act, next, ◌>>=◌, give, Words, one, of_value, of_truth, truth_in, scalar, further, fetched, checked, raise}
 use Rattle.al_meaning.specs.Expressions.{Calls, value, form_value, named, checked_value, converted, static_or, operated, decided, stepped_words, component}
 use Rattle.al_base.specs.declared.unit_key.UnitKey.{UnitKey}
 use Rattle.al_meaning.specs.Statements.{number, condition}

@@ -1,7 +1,7 @@
 -- The code of statements does what these mean.
-use Rattle.std.proofs.Common.{◌≡◌, ◌≢◌, ℕ, zero, suc, ◌+◌, ◌-◌, ◌<◌, ◌≤◌, ℤ, List, [], ◌∷◌, ◌++◌, Bool, true, false, ◌&&◌, Option, Some, None, nat_lt, refl, sym, ◌∙◌, ap, subst, arith, inl, inr, ◌⊎◌, append_assoc}
+use Rattle.std.proofs.Common.{◌≡◌, ◌≢◌, ℕ, zero, suc, ◌+◌, ◌-◌, ◌<◌, ◌≤◌, ℤ, List, [], ◌∷◌, ◌++◌, Bool, true, false, Option, Some, None, nat_lt, refl, sym, ◌∙◌, ap, subst, arith, inl, inr, append_assoc}
 use Rattle.std.proofs.lemmas.Bool.Decides.{nat_tests}
-use Rattle.std.specs.Prelude.{pos, ◌+ℤ◌, if◌then◌else◌, neg_ℤ}
+use Rattle.std.specs.Prelude.{pos, if◌then◌else◌, neg_ℤ}
 use Rattle.al_view.specs.declared.link.LinkSymbol.{LinkSymbol}
 use Rattle.al_view.specs.declared.view.ObjectPlace.{ObjectPlace}
 use Rattle.al_view_typed.specs.ExpressionTrees.{TypedTree, CallTree}
@@ -9,7 +9,7 @@ use Rattle.al_instr.specs.declared.instruction.Instr.{Instr}
 use Rattle.al_instr.specs.declared.instruction.Instr.TheVariants as instr
 use Rattle.al_code.specs.declared.piece.JumpCondition.TheVariants as when
 use Rattle.al_code.specs.declared.piece.Target.{Target}
-use Rattle.al_code.specs.Pieces.{Piece, Whole, size, Leaving, closed, Line, back, repeated}
+use Rattle.al_code.specs.Pieces.{Piece, Whole, size, Leaving, closed, Line, repeated}
 use Rattle.al_code.specs.ExprPieces.{guarded, unless_zero, join}
 use Rattle.al_code.specs.Templates.{value_of, call_code}
 use Rattle.al_link_image.specs.declared.parts.Region.{Region}

@@ -1,6 +1,6 @@
 -- No mark of a line is in the code of a value.
-use Rattle.std.proofs.Common.{ℕ, ◌+◌, List, [], ◌∷◌, ◌++◌, Option, Some, None}
-use Rattle.std.specs.Prelude.{pos, ⊤}
+use Rattle.std.proofs.Common.{ℕ, List, ◌++◌, Option, Some, None}
+use Rattle.std.specs.Prelude.{pos}
 use Rattle.al_view.specs.declared.link.LinkKind.TheVariants as links
 use Rattle.al_view.specs.declared.types.Bounds.{Bounds}
 use Rattle.al_view.specs.declared.types.StaticValue.{StaticValue}
@@ -24,7 +24,6 @@ use Rattle.al_code.specs.Pieces.{Piece}
 use Rattle.al_code.specs.ExprPieces.{of_size, number, check_code, place_code}
 use Rattle.al_code.specs.Templates.{index_code, value_of, form_code, address_of, checked_code, converted_code, unary_code, binary_code, step_code, short_code, static_or, words_of}
 use Rattle.al_code.specs.declared.piece.Construct.TheVariants as construct
-use Rattle.al_code.specs.Pieces.{closed}
 use Rattle.al_code.specs.ExprPieces.{guarded, unless_zero, join}
 use Rattle.al_meaning_code.specs.Subset.{IsName, OrStatic, IsIn, IsInForm, IsInValue}
 use Rattle.al_meaning_code.proofs.Marked.{HasNoMark, no_mark-append, no_mark-closed}

@@ -1,9 +1,8 @@
 -- The values of scalar expressions over the variables of a program.
-use Rattle.std.proofs.Common.{◌≡◌, ◌≢◌, ℕ, zero, suc, ◌+◌, ◌-◌, ◌<◌, ◌≤◌, max, ℤ, List, [], ◌∷◌, ◌++◌, Bool, true, false, cond, ◌&&◌, Option, Some, None, Result, Ok, Err, length, refl, sym, ◌∙◌, ap, subst, arith, inl, inr, ◌⊎◌, ⊎_elim, append_assoc}
-use Rattle.std.proofs.lemmas.Bool.{cases_lt}
+use Rattle.std.proofs.Common.{◌≡◌, ◌≢◌, ℕ, zero, suc, ◌+◌, ◌-◌, ◌<◌, ◌≤◌, max, ℤ, List, [], ◌∷◌, ◌++◌, Bool, true, false, ◌&&◌, Option, Some, None, Ok, Err, length, refl, sym, ◌∙◌, ap, subst, arith, inl, inr, ◌⊎◌, append_assoc}
 use Rattle.std.proofs.lemmas.Bool.Decides.{nat_tests}
 use Rattle.std.proofs.lemmas.Int.{ints}
-use Rattle.std.specs.Prelude.{⊤, pos, negsuc, option_and_then, ◌+ℤ◌, int_le, if◌then◌else◌, ◌-ℤ◌, ◌*ℤ◌, ◌*◌, unsigned_abs, nat_lt}
+use Rattle.std.specs.Prelude.{pos, negsuc, option_and_then, ◌+ℤ◌, int_le, if◌then◌else◌, ◌-ℤ◌, ◌*ℤ◌, ◌*◌, unsigned_abs, nat_lt}
 use Rattle.al_view.specs.ViewUses.{link}
 use Rattle.al_view.specs.declared.link.LinkKind.TheVariants as links
 use Rattle.al_view.specs.declared.link.LinkSymbol.{LinkSymbol}
@@ -15,8 +14,6 @@ use Rattle.al_view_typed.specs.declared.label.BinaryOperator.{BinaryOperator}
 use Rattle.al_view_typed.specs.declared.label.BinaryOperator.TheVariants as source
 use Rattle.al_view_typed.specs.declared.label.Conversion.{Conversion}
 use Rattle.al_view_typed.specs.declared.label.Conversion.TheVariants as conversions
-use Rattle.al_view_typed.specs.declared.label.UnaryOperator.{UnaryOperator}
-use Rattle.al_view_typed.specs.declared.label.UnaryOperator.TheVariants as unary
 use Rattle.al_view_typed.specs.declared.label.ShortCircuit.{ShortCircuit}
 use Rattle.al_view_typed.specs.declared.label.ShortCircuit.TheVariants as short
 use Rattle.al_view_typed.specs.ExpressionTrees.{TypedTree, FormTree, NameTree, ValueTree}
@@ -39,45 +36,36 @@ use Rattle.al_link_image.specs.declared.parts.Region.{Region}
 use Rattle.al_machine.specs.declared.regions.Entered.{Entered}
 use Rattle.al_machine.specs.declared.code.Step.{Step}
 use Rattle.al_machine.specs.declared.instruction.Exception.TheVariants as exception
-use Rattle.al_machine.specs.declared.instruction.Flow.{Flow}
-use Rattle.al_machine.specs.declared.instruction.Flow.TheVariants.{On, To}
-use Rattle.al_machine.specs.declared.instruction.Trap.{Trap}
-use Rattle.al_machine.specs.declared.instruction.Trap.TheVariants.{Raised, Stuck}
-use Rattle.al_machine.specs.declared.instruction.Instruction.{Instruction}
+use Rattle.al_machine.specs.declared.instruction.Trap.TheVariants.{Raised}
 use Rattle.al_machine.specs.declared.instruction.Instruction.TheVariants as kind
-use Rattle.al_machine.specs.declared.operation.Operation.{Operation}
 use Rattle.al_machine.specs.declared.operation.Operation.TheVariants as operation
-use Rattle.al_machine.specs.Operations.{operation_of, plain_operation, sized_operation}
+use Rattle.al_machine.specs.Operations.{operation_of, sized_operation}
 use Rattle.al_machine.specs.Code.{fetch}
 use Rattle.al_machine.specs.Machine.{Machine, IsWithin}
-use Rattle.al_machine.specs.Stack.{word_at, put, put_result, pushed, checked, binary}
-use Rattle.al_machine.specs.Memory.{is_open, loaded, put_address}
-use Rattle.al_machine.specs.Arithmetic.{operated, changed}
-use Rattle.al_machine.specs.declared.instruction.BinaryOperator.TheVariants as machine
+use Rattle.al_machine.specs.Stack.{word_at, put, pushed}
+use Rattle.al_machine.specs.Memory.{is_open, put_address}
 use Rattle.al_machine.specs.Bursts.{At}
 use Rattle.al_machine.specs.Frames.{followed, own_place, framed, push_address}
 use Rattle.al_machine.specs.Table.{on, exec}
-use Rattle.al_meaning.specs.Scalars.{Failure, ConstraintError, ProgramError, Meaningless, Valued, within, number_of, truth_of, with_truth, applied, applied_to, stepped}
+use Rattle.al_meaning.specs.Scalars.{ConstraintError, ProgramError, Meaningless, Valued, within, truth_of, with_truth, applied, applied_to, stepped}
 use Rattle.al_meaning_code.proofs.Plain.{Placed, then_place, in_array, element, indexed, word_in, placed, both_true, placed_is, variable_in, then_value, Variables, or_static, decided, value, value_of_form, converted, checked_value}
 use Rattle.al_meaning_code.proofs.Machines.{leads_on, stays, traps_after, goes, fails, size_cons, size-append}
-use Rattle.al_meaning_code.specs.Running.{at, Leads, Traps}
-use Rattle.al_meaning_code.proofs.Effects.{offsets, indexes, within_put, put_pushed, self_pushed, pushes, pushes_not, loads, operates, changes, checks}
+use Rattle.al_meaning_code.specs.Running.{at, Leads}
+use Rattle.al_meaning_code.proofs.Effects.{offsets, indexes, put_pushed, loads}
 use Rattle.al_meaning_code.specs.Showing.{Pushed}
 use Rattle.al_meaning_code.proofs.InImages.{size_some}
 use Rattle.al_meaning_code.proofs.Standing.{stands_front, stands_back}
 use Rattle.al_meaning_code.specs.Standing.{Stands}
-use Rattle.al_meaning_code.proofs.Operators.{plain_for, operator_for, binary_is, operation_is, agree-applied, agree-number, unary_plain, unary_for, unary_operation_is, agree-changed}
-use Rattle.al_meaning_code.specs.Laws.{Agree}
+use Rattle.al_meaning_code.proofs.Operators.{plain_for}
 use Rattle.al_meaning_code.specs.Subset.{IsScalar}
 use Rattle.al_code.specs.declared.piece.Construct.TheVariants as construct
 use Rattle.al_code.specs.declared.piece.Target.TheVariants as target
-use Rattle.al_code.specs.Pieces.{Leaving, closed, jump_of}
+use Rattle.al_code.specs.Pieces.{Leaving, closed}
 use Rattle.al_code.specs.ExprPieces.{guarded, unless_zero, join}
-use Rattle.al_meaning.specs.Scalars.{truth}
 use Rattle.al_meaning_code.proofs.Machines.{jumps, jumps_at_zero, passes_at_one, jump_size}
 use Rattle.al_meaning_code.proofs.Standing.{opened, size-closed, inner}
 use Rattle.al_meaning_code.proofs.Operators.{two_truths}
-use Rattle.al_meaning_code.proofs.Expressions.{Short, Ends, ends_after, then_ends, result_ends, push_ends, operator_ends, unary_ends, check_ends, plain_some, short_after, short_any, fails_on}
+use Rattle.al_meaning_code.proofs.Expressions.{Ends, ends_after, then_ends, push_ends, operator_ends, unary_ends, check_ends, short_after, short_any, fails_on}
 use Rattle.al_meaning_code.specs.Subset.{needs, needs_of, needs_form, needs_value}
 use Rattle.al_meaning_code.specs.Subset.{needs_name, IsName, OrStatic, IsIn, IsInForm, IsInValue}
 use Rattle.al_meaning.specs.States.{further}
@@ -285,7 +273,7 @@ module _ (objects : List Region) (inside : List Entered) (code : List Step) (lin
         let total : mid2 + size (index_code b words) ≡ to = omega (arith, same, size-append (ca ++ cv) (index_code b words)) in
         let t = push.top in
         let inner_ = then_ends objects inside code (at mid n) n m mid mid2 mid to nv (max na (1 + nv)) x (λ i. address_value (in_array (int_le b.low i && int_le i b.high) (element b words q i))) push.first (omega arith) (omega arith) (omega arith) (omega (arith, total)) (run n (pos (address q)) push)
-            (λ i p y. subst (λ (k : ℕ). Ends objects inside code (at mid2 p) mid2 m k (max na (1 + nv)) (address_value (in_array (int_le b.low i && int_le i b.high) (element b words q i)))) total (index_ends env ends b words mid2 (max na (1 + nv)) m n p q i s v.0 (v.1 i) push y si)) in
+        (λ i p y. subst (λ (k : ℕ). Ends objects inside code (at mid2 p) mid2 m k (max na (1 + nv)) (address_value (in_array (int_le b.low i && int_le i b.high) (element b words q i)))) total (index_ends env ends b words mid2 (max na (1 + nv)) m n p q i s v.0 (v.1 i) push y si)) in
         subst (λ (k : Valued). Ends objects inside code (at pc m) pc m to (max na (1 + nv)) k) (index_value b words q x)
         (ends_after objects inside code (at pc m) (at mid n) m mid pc to (max na (1 + nv)) (then_value x (λ i. address_value (in_array (int_le b.low i && int_le i b.high) (element b words q i)))) (omega arith) z.1 inner_)
     indexed_ends env ends ca cv b words pc na nv m (Ok q) x s h stands (inr z) run =

@@ -1,5 +1,5 @@
 -- The laws: what the code of labelled trees does is what they mean.
-use Rattle.std.specs.Prelude.{◌≡◌, ◌≢◌, ℕ, zero, suc, ◌+◌, ◌<◌, ◌≤◌, ⊤, ℤ, Bool, true, false, List, [], ◌∷◌, ◌++◌, length, Option, Some, None, Result, Ok, Err}
+use Rattle.std.specs.Prelude.{◌≡◌, ◌≢◌, ℕ, zero, suc, ◌+◌, ◌<◌, ◌≤◌, ⊤, ℤ, Bool, true, false, List, [], ◌∷◌, ◌++◌, length, Some, None, Result, Ok, Err}
 use Rattle.al_base.specs.declared.unit_key.UnitKey.{UnitKey}
 use Rattle.al_view.specs.ViewUses.{link}
 use Rattle.al_view.specs.declared.link.LinkKind.TheVariants as links
@@ -25,7 +25,7 @@ use Rattle.al_instr.specs.declared.instruction.Instr.TheVariants as instr
 use Rattle.al_instr.specs.Codes.{code_bytes, size_of}
 use Rattle.al_code.specs.declared.piece.Target.{Target}
 use Rattle.al_code.specs.declared.piece.Target.TheVariants as target
-use Rattle.al_code.specs.Pieces.{Piece, Whole, Using, Leaving, Begins, Line, size}
+use Rattle.al_code.specs.Pieces.{Piece, Whole, Using, Leaving, size}
 use Rattle.al_code.specs.ExprPieces.{one}
 use Rattle.al_code.specs.Routines.{procedure_code}
 use Rattle.al_code.specs.Statements.{statements_code}

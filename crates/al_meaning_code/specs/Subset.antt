@@ -8,16 +8,16 @@ use Rattle.al_view_typed.specs.declared.label.BinaryOperator.{BinaryOperator}
 use Rattle.al_view_typed.specs.declared.label.BinaryOperator.TheVariants as source
 use Rattle.al_view_typed.specs.ExpressionTrees.{TypedTree, FormTree, NameTree, ValueTree, CallTree}
 use Rattle.al_view_typed.specs.ExpressionTrees.TypedTree.{Labelled}
-use Rattle.al_view_typed.specs.ExpressionTrees.FormTree.{LiteralForm, NamedForm, UnaryForm, BinaryForm, ShortCircuitForm, MembershipForm, ConvertedForm, AggregateForm, OthersForm, CallForm, ClockForm}
+use Rattle.al_view_typed.specs.ExpressionTrees.FormTree.{LiteralForm, NamedForm, UnaryForm, BinaryForm, ShortCircuitForm, ConvertedForm}
 use Rattle.al_view_typed.specs.ExpressionTrees.NameTree.{ObjectName, ComponentName, IndexedName}
 use Rattle.al_view_typed.specs.ExpressionTrees.ValueTree.{Checked}
-use Rattle.al_view_typed.specs.DeclarationTrees.{DeclarationTree, DeclarationFormTree, Objects, Subprogram, Elaborated, SingleTask, SingleProtected}
+use Rattle.al_view_typed.specs.DeclarationTrees.{DeclarationTree, DeclarationFormTree, Objects}
 use Rattle.al_meaning.specs.States.{further}
 use Rattle.al_view_typed.specs.StatementTrees.{SchemeTree, StatementTree, StatementsTree, StatementFormTree, BranchTree, BranchesTree}
 use Rattle.al_view_typed.specs.StatementTrees.SchemeTree.{ForeverScheme, WhileScheme, ForScheme}
 use Rattle.al_view_typed.specs.StatementTrees.StatementTree.{Numbered}
 use Rattle.al_view_typed.specs.StatementTrees.StatementsTree.{NoStatement, MoreStatements}
-use Rattle.al_view_typed.specs.StatementTrees.StatementFormTree.{NullStatement, AssignmentStatement, CallStatement, PutStatement, ReturnStatement, ExitStatement, DelayStatement, IfStatement, CaseStatement, LoopStatement, BlockStatement}
+use Rattle.al_view_typed.specs.StatementTrees.StatementFormTree.{NullStatement, AssignmentStatement, CallStatement, ReturnStatement, ExitStatement, IfStatement, LoopStatement, BlockStatement}
 use Rattle.al_view_typed.specs.StatementTrees.BranchTree.{Branch}
 use Rattle.al_view_typed.specs.StatementTrees.BranchesTree.{NoBranch, MoreBranches}
 
