@@ -35,26 +35,28 @@ use Rattle.al_machine.specs.declared.regions.Entered.{Entered}
 use Rattle.al_machine.specs.declared.code.Step.{Step}
 use Rattle.al_machine.specs.declared.instruction.BinaryOperator.{BinaryOperator as MachineBinary}
 use Rattle.al_machine.specs.declared.instruction.UnaryOperator.{UnaryOperator as MachineUnary}
+use Rattle.al_machine.specs.declared.instruction.Exception.{Exception}
 use Rattle.al_machine.specs.declared.instruction.Exception.TheVariants as exception
+use Rattle.al_machine.specs.declared.instruction.Instruction.{Instruction}
 use Rattle.al_machine.specs.declared.instruction.Trap.{Trap}
 use Rattle.al_machine.specs.declared.instruction.Trap.TheVariants.{Raised}
 use Rattle.al_machine.specs.declared.instruction.Instruction.TheVariants as kind
 use Rattle.al_machine.specs.declared.operation.Operation.TheVariants as operation
 use Rattle.al_machine.specs.Arithmetic.{operated, changed}
 use Rattle.al_machine.specs.Operations.{operation_of}
-use Rattle.al_machine.specs.Code.{steps_from}
+use Rattle.al_machine.specs.Code.{fetch, steps_from}
 use Rattle.al_machine.specs.Machine.{Machine}
 use Rattle.al_machine.specs.Memory.{is_open}
 use Rattle.al_meaning.specs.Scalars.{ConstraintError, ProgramError, Meaningless, Valued, applied, applied_to}
-use Rattle.al_meaning.specs.States.{State, same_place, further}
+use Rattle.al_meaning.specs.States.{State, same_place, further, Outcome, Raises, Words}
 use Rattle.al_meaning.specs.Expressions.{Calls, value, called}
 use Rattle.al_meaning.specs.Statements.{all_done}
 use Rattle.al_meaning.specs.Partitions.{body_of, calls_of, start, meaning}
-use Rattle.al_meaning_code.specs.Running.{Lines, at}
+use Rattle.al_meaning_code.specs.Running.{Lines, at, TrapsAt}
 use Rattle.al_meaning_code.specs.Standing.{Stands, AreMarked}
 use Rattle.al_meaning_code.specs.Showing.{Shows}
 use Rattle.al_meaning_code.specs.Subset.{needs, IsScalar, IsIn, AreIn, AreDeclared}
-use Rattle.al_meaning_code.specs.Effects.{Evaluates, Runs, CallRuns}
+use Rattle.al_meaning_code.specs.Effects.{Evaluates, Runs, CallRuns, table_line, line_or}
 
 -- ---- operators
 
@@ -201,6 +203,24 @@ CallsAreDone =
     → (n : ℕ) (symbol : Symbol) → members symbol ≡ true → (line : UnitKey × ℕ) (st : State) (ends : Target → ℕ) (pc : ℕ) (m : Machine)
     → ShowsIn c st m → StandsIn c ends pc (call_code c.depth (call_of symbol))
     → CallRuns c.objects c.inside c.code c.lines c.linked c.depth c.floor (stack_for words room n) (Among c) c.address line (at pc m) m (pc + size (call_code c.depth (call_of symbol))) (suc n) (called (calls_of us n) (call_of symbol) st)
+
+-- the exception at that line is what the call means; nothing is said of what no checked unit does
+abbrev pub IsMeant : Exception → UnitKey × ℕ → Outcome Words → Type 0
+IsMeant e line (Raises ConstraintError told st) = (e ≡ exception.Constraint) × (table_line (line_or line told) ≡ line)
+IsMeant e line (Raises ProgramError told st) = (e ≡ exception.Program) × (table_line (line_or line told) ≡ line)
+IsMeant e line (Raises Meaningless told st) = ⊤
+IsMeant e line _ = ⊥
+
+-- conversely, where no instruction on words follows such a call: an exception other than Storage_Error that a run comes to in fewer than so many
+-- instructions is what the call means within that bound
+abbrev pub ExceptionsAreMeant : Type 0
+ExceptionsAreMeant =
+    (c : Setting) → IsLaidOut c → (us : List UnitTree) (words room : ℕ) (members : Symbol → Bool) → IsFamily c us words room members
+    → (n : ℕ) (symbol : Symbol) → members symbol ≡ true → (st : State) (ends : Target → ℕ) (pc : ℕ) (m : Machine)
+    → ShowsIn c st m → StandsIn c ends pc (call_code c.depth (call_of symbol))
+    → ((i : Instruction) (next : ℕ) → fetch c.code (pc + size (call_code c.depth (call_of symbol))) ≡ Some (operation.Word i, next) → ⊥)
+    → (line : UnitKey × ℕ) (e : Exception) (t : TrapsAt c.objects c.inside c.code c.lines (at pc m) line e) → t.leads.0 ≤ n → e ≢ exception.Storage
+    → IsMeant e line (called (calls_of us n) (call_of symbol) st)
 
 -- ---- partitions
 
