@@ -1,11 +1,11 @@
 -- States, and how what acts on them ends.
-use Rattle.std.specs.Prelude.{ℕ, zero, suc, ◌+◌, ℤ, Bool, true, false, ◌&&◌, ◌==◌, if◌then◌else◌, List, [], ◌∷◌, ◌++◌, Option, Some, None, Ok, Err}
+use Rattle.std.specs.Prelude.{ℕ, zero, suc, ◌+◌, ℤ, Bool, false, ◌&&◌, ◌==◌, if◌then◌else◌, List, [], ◌∷◌, ◌++◌, Option, Some, None, Ok, Err}
 use Rattle.al_base.specs.declared.unit_key.UnitKey.{UnitKey}
 use Rattle.al_view.specs.declared.types.Bounds.{Bounds}
 use Rattle.al_view.specs.declared.view.ObjectPlace.{ObjectPlace}
 use Rattle.al_view.specs.declared.view.ObjectPlace.TheVariants as places
 use Rattle.al_view.specs.Symbols.{same_symbol}
-use Rattle.al_meaning.specs.Scalars.{Failure, ConstraintError, ProgramError, Meaningless, Valued, truth_of, within}
+use Rattle.al_meaning.specs.Scalars.{Failure, ProgramError, Meaningless, Valued, truth_of, within}
 
 -- what each word of each object holds, which bodies are elaborated, and what was put
 pub record State : Type 0 where

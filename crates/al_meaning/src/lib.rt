@@ -13,4 +13,6 @@
 
 mod laws;
 
-pub use laws::{calls_return, exceptions_have_lines, loops_end, operators_give};
+pub use laws::{
+    calls_return, exceptions_have_lines, loops_end, objects_hold, operators_give, tests_give,
+};

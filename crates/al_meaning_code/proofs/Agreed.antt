@@ -1,10 +1,7 @@
 -- The law of operators.
-use Rattle.std.proofs.Common.{◌≡◌, ℕ, List, refl}
-use Rattle.al_view_typed.specs.declared.label.BinaryOperator.{BinaryOperator}
+use Rattle.std.proofs.Common.{◌≡◌, refl}
 use Rattle.al_view_typed.specs.declared.label.UnaryOperator.{UnaryOperator}
 use Rattle.al_view_typed.specs.declared.label.UnaryOperator.TheVariants as unary
-use Rattle.al_instr.specs.declared.numbers.Plain.{Plain as PlainOne}
-use Rattle.al_code.specs.Pieces.{Piece}
 use Rattle.al_code.specs.ExprPieces.{one}
 use Rattle.al_code.specs.Templates.{unary_code}
 use Rattle.al_meaning_code.specs.Laws.{OperatorsAgree}

@@ -1,17 +1,15 @@
 -- What the instructions of calls leave: a frame begins, its words are zeros, and it ends.
-use Rattle.std.proofs.Common.{◌≡◌, ◌≢◌, ℕ, zero, suc, ◌+◌, ◌-◌, ◌<◌, ◌≤◌, ℤ, List, [], ◌∷◌, ◌++◌, Bool, true, false, cond, ◌&&◌, Option, Some, None, Result, Ok, Err, length, get_or, set, take, drop, replicate, nat_le, nat_lt, refl, sym, ◌∙◌, ap, subst, arith, inl, inr, ◌⊎◌, length-set, get_or-set_same, get_or-set_other, length-take}
+use Rattle.std.proofs.Common.{◌≡◌, ◌≢◌, ℕ, ◌+◌, ◌-◌, ◌<◌, ◌≤◌, ℤ, List, ◌++◌, true, false, Ok, Err, length, get_or, set, take, drop, replicate, nat_le, nat_lt, refl, ◌∙◌, ap, arith, inl, ◌⊎◌, length-set, get_or-set_same, get_or-set_other, length-take}
 use Rattle.std.proofs.lemmas.Bool.Decides.{nat_tests}
 use Rattle.std.proofs.lemmas.List.{get_or_append_left, get_or-append_right, get_or-replicate, length-replicate}
-use Rattle.std.specs.Prelude.{pos, negsuc, if◌then◌else◌}
-use Rattle.al_machine.specs.declared.instruction.Flow.{Flow}
-use Rattle.al_machine.specs.declared.instruction.Flow.TheVariants.{On, To}
-use Rattle.al_machine.specs.declared.instruction.Trap.{Trap}
-use Rattle.al_machine.specs.declared.instruction.Trap.TheVariants.{Raised, Stuck}
+use Rattle.std.specs.Prelude.{pos}
+use Rattle.al_machine.specs.declared.instruction.Flow.TheVariants.{To}
+use Rattle.al_machine.specs.declared.instruction.Trap.TheVariants.{Raised}
 use Rattle.al_machine.specs.declared.instruction.Exception.TheVariants as exception
 use Rattle.al_machine.specs.Machine.{Machine, IsWithin}
 use Rattle.al_machine.specs.Stack.{word_at, holds, has_room}
 use Rattle.al_machine.specs.Memory.{copied, zeroed}
-use Rattle.al_machine.specs.Frames.{own_place, begun, rooted, entered, called, return_to, returned}
+use Rattle.al_machine.specs.Frames.{rooted, entered, called, returned}
 use Rattle.al_meaning_code.proofs.Memories.{copied_apart, length-copied, length-zeroed, zeroed_apart}
 
 -- a word among zeros

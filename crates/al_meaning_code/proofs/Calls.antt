@@ -1,35 +1,19 @@
 -- A call of a library-level procedure without parameters does what its statements mean over new words.
-use Rattle.std.proofs.Common.{◌≡◌, ◌≢◌, ℕ, suc, ◌+◌, ◌-◌, ◌==◌, ◌<◌, ◌≤◌, ℤ, List, [], ◌∷◌, ◌++◌, Bool, true, false, ◌&&◌, Option, Some, None, Result, Ok, Err, length, nat_le, refl, sym, ◌∙◌, ap, subst, arith, inl, inr, ◌⊎◌, ⊎_elim}
+use Rattle.std.proofs.Common.{◌≡◌, ◌≢◌, ℕ, suc, ◌+◌, ◌-◌, ◌==◌, ◌<◌, ◌≤◌, List, [], ◌∷◌, true, false, Option, Some, Result, length, nat_le, refl, sym, ◌∙◌, ap, subst, arith, inl, inr, ⊎_elim}
 use Rattle.std.proofs.lemmas.Bool.{cases_lt}
 use Rattle.std.proofs.lemmas.Bool.Decides.{nat_tests}
-use Rattle.std.specs.Prelude.{pos, option_and_then, if◌then◌else◌}
+use Rattle.std.specs.Prelude.{option_and_then}
 use Rattle.al_base.specs.declared.unit_key.UnitKey.{UnitKey}
-use Rattle.al_view.specs.ViewUses.{link}
-use Rattle.al_view.specs.declared.link.LinkKind.TheVariants as links
 use Rattle.al_view.specs.declared.link.LinkSymbol.{LinkSymbol}
 use Rattle.al_view.specs.declared.symbol.Symbol.{Symbol}
 use Rattle.al_view.specs.declared.view.ObjectPlace.{ObjectPlace}
 use Rattle.al_view.specs.declared.view.ObjectPlace.TheVariants as places
-use Rattle.al_view_typed.specs.declared.unit.BodyKind.TheVariants as kinds
 use Rattle.al_view_typed.specs.ExpressionTrees.{CallTree}
 use Rattle.al_view_typed.specs.DeclarationTrees.{DeclarationTree}
 use Rattle.al_view_typed.specs.StatementTrees.{StatementTree}
-use Rattle.al_view_typed.specs.StatementViews.{statements_of}
-use Rattle.al_view_typed.specs.UnitTrees.{BodyTree, UnitTree}
+use Rattle.al_view_typed.specs.UnitTrees.{BodyTree}
 use Rattle.al_instr.specs.declared.instruction.Instr.{Instr}
-use Rattle.al_instr.specs.declared.instruction.Instr.TheVariants as instr
-use Rattle.al_instr.specs.declared.numbers.Plain.TheVariants as plains
-use Rattle.al_instr.specs.declared.numbers.Sized.TheVariants as sized
-use Rattle.al_instr.specs.Codes.{size_of}
-use Rattle.al_code.specs.declared.piece.Construct.TheVariants as construct
-use Rattle.al_code.specs.declared.piece.Target.{Target}
-use Rattle.al_code.specs.declared.piece.Target.TheVariants as target
 use Rattle.al_code.specs.LineLaws.{TreesTellCode}
-use Rattle.al_code.specs.Marks.{mark_of}
-use Rattle.al_code.specs.Pieces.{Piece, Whole, Using, Begins, Line, closed, size, piece_size, line_word}
-use Rattle.al_code.specs.Routines.{within as within_depth, inside_code, ending_code, copied_code, procedure_code}
-use Rattle.al_code.specs.Statements.{statements_code}
-use Rattle.al_code.specs.Templates.{flag_code, call_code}
 use Rattle.al_link_image.specs.declared.parts.Region.{Region}
 use Rattle.al_machine.specs.declared.regions.Entered.{Entered}
 use Rattle.al_machine.specs.declared.code.Step.{Step}
@@ -39,7 +23,6 @@ use Rattle.al_machine.specs.declared.instruction.Trap.{Trap}
 use Rattle.al_machine.specs.declared.instruction.Instruction.TheVariants as kind
 use Rattle.al_machine.specs.declared.operation.Operation.{Operation}
 use Rattle.al_machine.specs.declared.operation.Operation.TheVariants as operation
-use Rattle.al_machine.specs.Operations.{operation_of, plain_operation, sized_operation}
 use Rattle.al_machine.specs.Bursts.{At, landing, landed, advanced_by}
 use Rattle.al_machine.specs.Code.{fetch}
 use Rattle.al_machine.specs.Machine.{Machine, IsWithin}
@@ -47,21 +30,15 @@ use Rattle.al_machine.specs.Memory.{is_open}
 use Rattle.al_machine.specs.Stack.{word_at}
 use Rattle.al_machine.specs.Table.{on, exec}
 use Rattle.al_meaning.specs.Scalars.{Failure, ConstraintError, ProgramError, Meaningless}
-use Rattle.al_meaning.specs.States.{State, Outcome, Gives, Raises, GoesOn, next, give, Words, same_place}
-use Rattle.al_meaning.specs.Expressions.{Calls, called}
-use Rattle.al_meaning.specs.Statements.{Flow, On, Exits, Returns, all_done}
-use Rattle.al_meaning.specs.Partitions.{is_inside, fresh, restored, ended_in, given_back, found_body, body_of, calls_of}
-use Rattle.al_meaning_code.specs.Running.{Lines, at, IsThere, Leads, GoesOnFor, Traps, TrapsAt, Exhausts}
-use Rattle.al_meaning_code.specs.Standing.{Stands, AreMarked}
+use Rattle.al_meaning.specs.States.{further, State, Outcome, Gives, Raises, GoesOn, next, give, Words, same_place}
+use Rattle.al_meaning.specs.Statements.{Flow, On, Exits, Returns}
+use Rattle.al_meaning.specs.Partitions.{fresh, restored, ended_in, given_back}
+use Rattle.al_meaning_code.specs.Running.{Lines, at, IsThere, Leads, Traps, Exhausts}
 use Rattle.al_meaning_code.specs.Showing.{Linked, Reaches, Shows, Near}
-use Rattle.al_meaning_code.specs.Subset.{AreIn}
 use Rattle.al_meaning_code.specs.Effects.{table_line, line_or, RaisesAt, Reaching, Runs, CallRuns}
 use Rattle.al_meaning_code.specs.Laws.{procedure, SeenInside}
-use Rattle.al_meaning_code.proofs.Machines.{leads_on, stays, traps_after, goes, fails, carried_on, size_cons, size-append}
-use Rattle.al_meaning_code.proofs.Standing.{stands_front, stands_back, opened, size-closed, inner}
-use Rattle.al_meaning_code.proofs.Marked.{marked_front, marked_opened}
+use Rattle.al_meaning_code.proofs.Machines.{leads_on, stays, traps_after, goes, fails, carried_on}
 use Rattle.al_meaning_code.proofs.Values.{reaches_kept}
-use Rattle.al_meaning_code.proofs.Statements.{statements_do}
 use Rattle.al_meaning_code.proofs.CallSteps.{Framed, rooted_machine, called_machine, entered_machine, roots, roots_not, calls, enters, enters_not, framed_so, returns}
 
 -- where the words of the callee lie
@@ -77,7 +54,7 @@ inside_one : (d : ℕ) → 1 ≤ d → nat_le 1 d ≡ true
 inside_one d h = grind (arith, nat_tests)
 
 module _ (objects : List Region) (inside : List Entered) (code : List Step) (lines : Lines) (linked : LinkSymbol → Instr → Instr) (depth floor small room words most : ℕ) (V : ObjectPlace → Type 0) (address : ObjectPlace → ℕ) (C : CallTree → Type 0)
-    (below : (p : ObjectPlace) → V p → address p < floor) (opened_ : (p : ObjectPlace) → V p → is_open objects inside 0 (address p) 1 ≡ true)
+    (below : (p : ObjectPlace) → V p → address p < floor) (opened_ : (p : ObjectPlace) → V p → is_open objects inside 0 (address p) 1 ≡ true) (linear : (p : ObjectPlace) (k : ℕ) → V p → V (further p k) → address (further p k) ≡ address p + k)
     (apart : (p q : ObjectPlace) → V p → V q → same_place p q ≡ false → address p ≢ address q) (alike : (p q : ObjectPlace) → V p → V q → same_place p q ≡ true → address p ≡ address q)
     (nested : (d w : ℕ) → V (places.Frame d w) → 1 ≤ d) (free : (k : ℕ) → floor ≤ k → is_open objects inside 0 k 1 ≡ true) (tell : TreesTellCode) (roomy : small ≤ room) (fit : 3 + words + room ≤ most) where
   abbrev Caller : State → Machine → Type 0
@@ -99,6 +76,10 @@ module _ (objects : List Region) (inside : List Entered) (code : List Step) (lin
     pub open_ : (p : ObjectPlace) → Mine p → is_open objects inside 0 (place_of p) 1 ≡ true
     open_ (places.Frame d k) h = free (m.top + k) (omega arith)
     open_ (places.Static s k) h = opened_ (places.Static s k) h
+
+    pub linear_ : (p : ObjectPlace) (k : ℕ) → Mine p → Mine (further p k) → place_of (further p k) ≡ place_of p + k
+    linear_ (places.Frame d w) k h i = omega arith
+    linear_ (places.Static x w) k h i = linear (places.Static x w) k h i
 
     pub apart_ : (p q : ObjectPlace) → Mine p → Mine q → same_place p q ≡ false → place_of p ≢ place_of q
     apart_ (places.Frame d k) (places.Frame e j) h i diff = λ same.

@@ -1,10 +1,11 @@
 -- The code of declarations of objects does what these mean.
-use Rattle.std.proofs.Common.{◌≡◌, ◌≢◌, ℕ, ◌+◌, ◌-◌, ◌<◌, ◌≤◌, List, [], ◌∷◌, ◌++◌, Bool, true, false, ◌&&◌, Option, Some, None, Ok, length, nat_lt, refl, sym, ◌∙◌, ap, subst, arith, inl, inr, ◌⊎◌, ⊎_elim}
+use Rattle.std.proofs.Common.{◌≡◌, ◌≢◌, ℕ, ◌+◌, ◌<◌, ◌≤◌, List, [], ◌∷◌, ◌++◌, Bool, true, false, Option, Some, None, Ok, length, nat_lt, refl, sym, ◌∙◌, ap, subst, arith, inl, inr, ◌⊎◌, ⊎_elim}
 use Rattle.std.proofs.lemmas.Bool.Decides.{nat_tests}
-use Rattle.std.specs.Prelude.{pos, ◌+ℤ◌, if◌then◌else◌}
+use Rattle.std.specs.Prelude.{pos, if◌then◌else◌}
 use Rattle.al_view.specs.declared.link.LinkKind.TheVariants as links
 use Rattle.al_view.specs.declared.link.LinkSymbol.{LinkSymbol}
 use Rattle.al_view.specs.declared.view.ObjectPlace.{ObjectPlace}
+use Rattle.al_view_typed.specs.ExpressionTrees.ValueTree.{Checked}
 use Rattle.al_view_typed.specs.ExpressionTrees.{ValueTree, CallTree}
 use Rattle.al_view_typed.specs.ExpressionTrees.NameTree.{ObjectName}
 use Rattle.al_instr.specs.declared.instruction.Instr.{Instr}
@@ -28,7 +29,7 @@ use Rattle.al_code.specs.declared.piece.Target.TheVariants as target
 use Rattle.al_code.specs.declared.routine.Routine.{Routine}
 use Rattle.al_base.specs.declared.unit_key.UnitKey.{UnitKey}
 use Rattle.al_code.specs.LineLaws.{TreesTellCode}
-use Rattle.al_meaning.specs.States.{State, Outcome, Gives, Raises, GoesOn, Act, next, ◌>>=◌, ◌>>◌, give, told_at, at_line, Words, with_words, store, same_place}
+use Rattle.al_meaning.specs.States.{further, State, Outcome, Gives, Raises, GoesOn, Act, next, ◌>>=◌, ◌>>◌, give, told_at, at_line, Words, with_words, store, same_place}
 use Rattle.al_meaning.specs.Expressions.{Calls, named, checked_value}
 use Rattle.al_meaning.specs.Statements.{Flow, On, flow_on}
 use Rattle.al_meaning_code.specs.Running.{Lines, at, Leads}
@@ -57,11 +58,11 @@ use Rattle.al_meaning_code.proofs.Unmarked.{place_unmarked}
 use Rattle.std.proofs.lemmas.Bool.{cases_lt}
 
 module _ (objects : List Region) (inside : List Entered) (code : List Step) (linked : LinkSymbol → Instr → Instr) (lines : Lines) (unit : UnitKey) (r : Routine) (calls : Calls) (floor small room : ℕ) (V : ObjectPlace → Type 0) (address : ObjectPlace → ℕ) (C : CallTree → Type 0)
-    (below : (p : ObjectPlace) → V p → address p < floor) (opened_ : (p : ObjectPlace) → V p → is_open objects inside 0 (address p) 1 ≡ true)
+    (below : (p : ObjectPlace) → V p → address p < floor) (opened_ : (p : ObjectPlace) → V p → is_open objects inside 0 (address p) 1 ≡ true) (linear : (p : ObjectPlace) (k : ℕ) → V p → V (further p k) → address (further p k) ≡ address p + k)
     (apart : (p q : ObjectPlace) → V p → V q → same_place p q ≡ false → address p ≢ address q) (alike : (p q : ObjectPlace) → V p → V q → same_place p q ≡ true → address p ≡ address q) (tell : TreesTellCode) (roomy : small ≤ room) where
   -- ---- objects
 
-  zero_runs : (st : State) (exits : ℕ → ℕ) (home : ℕ) (line : UnitKey × ℕ) (p : ObjectPlace) (ends : Target → ℕ) (pc fuel : ℕ) (m q : Machine) → V p → Showing objects inside code linked lines unit r calls floor small room V address C below opened_ apart alike tell roomy st.words m → Pushed m q (pos (address p)) → StandsHere objects inside code linked lines unit r calls floor small room V address C below opened_ apart alike tell roomy ends pc (of_size sized.Zero 1) → Runs objects inside code lines linked r.depth floor room V address exits home line (at pc q) m (pc + size (of_size sized.Zero 1)) fuel (Gives On (record st { words = with_words p (pos 0 ∷ []) st.words }))
+  zero_runs : (st : State) (exits : ℕ → ℕ) (home : ℕ) (line : UnitKey × ℕ) (p : ObjectPlace) (ends : Target → ℕ) (pc fuel : ℕ) (m q : Machine) → V p → Showing objects inside code linked lines unit r calls floor small room V address C below opened_ linear apart alike tell roomy st.words m → Pushed m q (pos (address p)) → StandsHere objects inside code linked lines unit r calls floor small room V address C below opened_ linear apart alike tell roomy ends pc (of_size sized.Zero 1) → Runs objects inside code lines linked r.depth floor room V address exits home line (at pc q) m (pc + size (of_size sized.Zero 1)) fuel (Gives On (record st { words = with_words p (pos 0 ∷ []) st.words }))
   unfolding exec operation_of sized_operation
   zero_runs st exits home line p ends pc fuel m q var s y stands =
       let i = instr.Sized sized.Zero 1 in
@@ -76,8 +77,8 @@ module _ (objects : List Region) (inside : List Entered) (code : List Step) (lin
       let total = length-zeroed q.memory (address p) 1 fits in
       let there : word_at z (address p) ≡ pos 0 = zeroed_in q.memory (address p) 1 (address p) fits (omega arith) (omega arith) in
       let other : (k : ℕ) → k < floor → address p ≢ k → word_at z k ≡ word_at m k = λ k h u. zeroed_apart q.memory (address p) 1 k fits (beside k (address p) u) ∙ y.kept k (omega arith) in
-      let near : Close objects inside code linked lines unit r calls floor small room V address C below opened_ apart alike tell roomy m z = record { first = fy; frame = ry; top = refl; long = total ∙ ly; kept = λ k h u. other k h (u p var) } in
-      let shown : Showing objects inside code linked lines unit r calls floor small room V address C below opened_ apart alike tell roomy (with_words p (pos 0 ∷ []) st.words) z = record {
+      let near : Close objects inside code linked lines unit r calls floor small room V address C below opened_ linear apart alike tell roomy m z = record { first = fy; frame = ry; top = refl; long = total ∙ ly; kept = λ k h u. other k h (u p var) } in
+      let shown : Showing objects inside code linked lines unit r calls floor small room V address C below opened_ linear apart alike tell roomy (with_words p (pos 0 ∷ []) st.words) z = record {
         within = record { memory = omega arith; own = omega arith; frame = omega arith; below = omega arith; stack = omega arith; room = omega arith };
         above = a;
         lies = λ o h. reaches_kept objects inside code linked r.depth floor V address m z o near.first near.frame near.kept (s.lies o h);
@@ -92,15 +93,18 @@ module _ (objects : List Region) (inside : List Entered) (code : List Step) (lin
       held z o h there other true e = ap (λ (k : ℕ). word_at z k) (sym (alike p o var h e)) ∙ there
       held z o h there other false e = other (address o) (below o h) (apart p o var h e) ∙ s.holds o h
 
+  two_value : (y : ValueTree) → 2 ≤ needs_value y
+  two_value (Checked y b) = omega arith
+
   as_assigned : (p : ObjectPlace) (o : Outcome Words) → next o (λ vs. named calls (ObjectName p true) >>= (λ place. store place vs >> give On)) ≡ next (next o (λ vs. store p vs)) (λ x. give On)
   as_assigned p (Gives vs e) = refl
   as_assigned p (Raises e told z) = refl
   as_assigned p (GoesOn z) = refl
 
-  object_does : (fuel line : ℕ) (x : Option ValueTree) (p : ObjectPlace) → V p → IsInitial V C small x → DoesAt objects inside code linked lines unit r calls floor small room V address C below opened_ apart alike tell roomy fuel line (object_code r.depth 1 x p) (object_declared calls unit 1 x p >> give On)
+  object_does : (fuel line : ℕ) (x : Option ValueTree) (p : ObjectPlace) → V p → IsInitial V C small x → DoesAt objects inside code linked lines unit r calls floor small room V address C below opened_ linear apart alike tell roomy fuel line (object_code r.depth 1 x p) (object_declared calls unit 1 x p >> give On)
   object_does fuel line (Some x) p h fit = λ st ends pc m s stands marks.
-      subst (λ (o : Outcome Flow). Ran objects inside code linked lines unit r calls floor small room V address C below opened_ apart alike tell roomy ends (unit, line) pc m (pc + size (object_code r.depth 1 (Some x) p)) fuel o) (as_assigned p (checked_value calls x st))
-      (assign_does objects inside code linked lines unit r calls floor small room V address C below opened_ apart alike tell roomy fuel line (ObjectName p true) 1 x h refl fit.0 (roomier objects inside code linked lines unit r calls floor small room V address C below opened_ apart alike tell roomy (needs_value x) fit.1) st ends pc m s stands marks)
+      subst (λ (o : Outcome Flow). Ran objects inside code linked lines unit r calls floor small room V address C below opened_ linear apart alike tell roomy ends (unit, line) pc m (pc + size (object_code r.depth 1 (Some x) p)) fuel o) (as_assigned p (checked_value calls x st))
+      (assign_does objects inside code linked lines unit r calls floor small room V address C below opened_ linear apart alike tell roomy fuel line (ObjectName p true) 1 x h refl fit.0 (roomier objects inside code linked lines unit r calls floor small room V address C below opened_ linear apart alike tell roomy (needs_value x) fit.1) (let v = roomier objects inside code linked lines unit r calls floor small room V address C below opened_ linear apart alike tell roomy (needs_value x) fit.1 in let two = two_value x in omega arith) st ends pc m s stands marks)
   object_does fuel line None p h fit = λ st ends pc m s stands marks.
       let c = place_code links.Data r.depth p in
       let zero_ = of_size sized.Zero 1 in
@@ -108,17 +112,17 @@ module _ (objects : List Region) (inside : List Entered) (code : List Step) (lin
       let sp = stands_front code linked ends pc c zero_ stands in
       let sz = stands_back code linked ends pc c zero_ stands in
       let total : (pc + size c) + size zero_ ≡ pc + size (c ++ zero_) = omega (arith, size-append c zero_) in
-      go st exits (ends target.Routine) ends pc m s sz total (place_ends objects inside code linked r.depth floor V address below opened_ st.words ends p pc m h s sp)
+      go st exits (ends target.Routine) ends pc m s sz total (place_ends objects inside code linked r.depth floor V address below opened_ linear st.words ends p pc m h s sp)
     where
-      go : (st : State) (exits : ℕ → ℕ) (home : ℕ) (ends : Target → ℕ) (pc : ℕ) (m : Machine) → Showing objects inside code linked lines unit r calls floor small room V address C below opened_ apart alike tell roomy st.words m → StandsHere objects inside code linked lines unit r calls floor small room V address C below opened_ apart alike tell roomy ends (pc + size (place_code links.Data r.depth p)) (of_size sized.Zero 1) → (pc + size (place_code links.Data r.depth p)) + size (of_size sized.Zero 1) ≡ pc + size (place_code links.Data r.depth p ++ of_size sized.Zero 1)
+      go : (st : State) (exits : ℕ → ℕ) (home : ℕ) (ends : Target → ℕ) (pc : ℕ) (m : Machine) → Showing objects inside code linked lines unit r calls floor small room V address C below opened_ linear apart alike tell roomy st.words m → StandsHere objects inside code linked lines unit r calls floor small room V address C below opened_ linear apart alike tell roomy ends (pc + size (place_code links.Data r.depth p)) (of_size sized.Zero 1) → (pc + size (place_code links.Data r.depth p)) + size (of_size sized.Zero 1) ≡ pc + size (place_code links.Data r.depth p ++ of_size sized.Zero 1)
           → Ends objects inside code (at pc m) pc m (pc + size (place_code links.Data r.depth p)) 1 (Ok (pos (address p))) → Runs objects inside code lines linked r.depth floor room V address exits home (unit, line) (at pc m) m (pc + size (place_code links.Data r.depth p ++ of_size sized.Zero 1)) fuel (Gives On (record st { words = with_words p (pos 0 ∷ []) st.words }))
       go st exits home ends pc m s sz total (inl x) =
           let pc1 = pc + size (place_code links.Data r.depth p) in
           let o : Outcome Flow = Gives On (record st { words = with_words p (pos 0 ∷ []) st.words }) in
           let ran = zero_runs st exits home (unit, line) p ends pc1 fuel m x.0 h s x.2 sz in
-          runs_after objects inside code linked lines unit r calls floor small room V address C below opened_ apart alike tell roomy exits home (unit, line) (at pc m) (at pc1 x.0) m m _ fuel fuel o (near_self objects inside code linked lines unit r calls floor small room V address C below opened_ apart alike tell roomy m) x.1 (omega arith)
+          runs_after objects inside code linked lines unit r calls floor small room V address C below opened_ linear apart alike tell roomy exits home (unit, line) (at pc m) (at pc1 x.0) m m _ fuel fuel o (near_self objects inside code linked lines unit r calls floor small room V address C below opened_ linear apart alike tell roomy m) x.1 (omega arith)
           (subst (λ (k : ℕ). Runs objects inside code lines linked r.depth floor room V address exits home (unit, line) (at pc1 x.0) m k fuel o) total ran)
-      go st exits home ends pc m s sz total (inr x) = let l = x.0 in let e = roomier objects inside code linked lines unit r calls floor small room V address C below opened_ apart alike tell roomy 1 fit in inr (omega arith, pc, pc + size (place_code links.Data r.depth p), x.1)
+      go st exits home ends pc m s sz total (inr x) = let l = x.0 in let e = roomier objects inside code linked lines unit r calls floor small room V address C below opened_ linear apart alike tell roomy 1 fit in inr (omega arith, pc, pc + size (place_code links.Data r.depth p), x.1)
 
   object_unmarked : (x : Option ValueTree) (p : ObjectPlace) → IsInitial V C small x → HasNoMark (object_code r.depth 1 x p)
   object_unmarked (Some x) p fit = no_mark-append (checked_code r.depth x ++ place_code links.Data r.depth p) (of_size sized.Store 1) (no_mark-append (checked_code r.depth x) (place_code links.Data r.depth p) (checked_unmarked V r.depth x fit.0) (place_unmarked V r.depth p)) tt
@@ -129,8 +133,8 @@ module _ (objects : List Region) (inside : List Entered) (code : List Step) (lin
   in_turn (Raises e told z) g = refl
   in_turn (GoesOn z) g = refl
 
-  objects_do : (fuel line : ℕ) (x : Option ValueTree) (ps : List ObjectPlace) → AreVariables V C small ps → IsInitial V C small x → DoesAt objects inside code linked lines unit r calls floor small room V address C below opened_ apart alike tell roomy fuel line (flat_map (λ p. object_code r.depth 1 x p) ps) (objects_declared calls unit 1 x ps >> give On)
-  objects_do fuel line x [] h fit = does_at objects inside code linked lines unit r calls floor small room V address C below opened_ apart alike tell roomy fuel line [] (give On) (nothing_does objects inside code linked lines unit r calls floor small room V address C below opened_ apart alike tell roomy fuel)
+  objects_do : (fuel line : ℕ) (x : Option ValueTree) (ps : List ObjectPlace) → AreVariables V C small ps → IsInitial V C small x → DoesAt objects inside code linked lines unit r calls floor small room V address C below opened_ linear apart alike tell roomy fuel line (flat_map (λ p. object_code r.depth 1 x p) ps) (objects_declared calls unit 1 x ps >> give On)
+  objects_do fuel line x [] h fit = does_at objects inside code linked lines unit r calls floor small room V address C below opened_ linear apart alike tell roomy fuel line [] (give On) (nothing_does objects inside code linked lines unit r calls floor small room V address C below opened_ linear apart alike tell roomy fuel)
   objects_do fuel line x (p ∷ ps) h fit = λ st ends pc m s stands marks.
       let c = object_code r.depth 1 x p in
       let d = flat_map (λ q. object_code r.depth 1 x q) ps in
@@ -139,15 +143,15 @@ module _ (objects : List Region) (inside : List Entered) (code : List Step) (lin
       let first = object_does fuel line x p h.0 fit st ends pc m s (stands_front code linked ends pc c d stands) (marked_front lines unit line pc c d marks) in
       let sd = stands_back code linked ends pc c d stands in
       let md = marked_beyond lines unit line pc c d (object_unmarked x p fit) marks in
-      subst (λ (o : Outcome Flow). Ran objects inside code linked lines unit r calls floor small room V address C below opened_ apart alike tell roomy ends (unit, line) pc m (pc + size (c ++ d)) fuel o) (in_turn (object_declared calls unit 1 x p st) (objects_declared calls unit 1 x ps))
-      (then_runs objects inside code linked lines unit r calls floor small room V address C below opened_ apart alike tell roomy exits (ends target.Routine) (unit, line) (at pc m) m (pc + size c) (pc + size (c ++ d)) fuel (next (object_declared calls unit 1 x p st) (λ y. give On)) (objects_declared calls unit 1 x ps >> give On) first
-      (λ e n z. subst (λ (k : ℕ). Ran objects inside code linked lines unit r calls floor small room V address C below opened_ apart alike tell roomy ends (unit, line) (pc + size c) n k fuel ((objects_declared calls unit 1 x ps >> give On) e)) total (objects_do fuel line x ps h.1 fit e ends (pc + size c) n z sd md)))
+      subst (λ (o : Outcome Flow). Ran objects inside code linked lines unit r calls floor small room V address C below opened_ linear apart alike tell roomy ends (unit, line) pc m (pc + size (c ++ d)) fuel o) (in_turn (object_declared calls unit 1 x p st) (objects_declared calls unit 1 x ps))
+      (then_runs objects inside code linked lines unit r calls floor small room V address C below opened_ linear apart alike tell roomy exits (ends target.Routine) (unit, line) (at pc m) m (pc + size c) (pc + size (c ++ d)) fuel (next (object_declared calls unit 1 x p st) (λ y. give On)) (objects_declared calls unit 1 x ps >> give On) first
+      (λ e n z. subst (λ (k : ℕ). Ran objects inside code linked lines unit r calls floor small room V address C below opened_ linear apart alike tell roomy ends (unit, line) (pc + size c) n k fuel ((objects_declared calls unit 1 x ps >> give On) e)) total (objects_do fuel line x ps h.1 fit e ends (pc + size c) n z sd md)))
 
   -- ---- declarations
 
-  form_declares : (fuel line : ℕ) (form : DeclarationFormTree) → IsInDeclaration V C small form → DoesAt objects inside code linked lines unit r calls floor small room V address C below opened_ apart alike tell roomy fuel line (declaration_form_code r.depth form) (declared calls unit form >> give On)
+  form_declares : (fuel line : ℕ) (form : DeclarationFormTree) → IsInDeclaration V C small form → DoesAt objects inside code linked lines unit r calls floor small room V address C below opened_ linear apart alike tell roomy fuel line (declaration_form_code r.depth form) (declared calls unit form >> give On)
   form_declares fuel line (Objects objects_ words x) h =
-      subst (λ (k : ℕ). DoesAt objects inside code linked lines unit r calls floor small room V address C below opened_ apart alike tell roomy fuel line (flat_map (λ p. object_code r.depth k x p) objects_) (objects_declared calls unit k x objects_ >> give On)) (sym h.1) (objects_do fuel line x objects_ h.0 h.2)
+      subst (λ (k : ℕ). DoesAt objects inside code linked lines unit r calls floor small room V address C below opened_ linear apart alike tell roomy fuel line (flat_map (λ p. object_code r.depth k x p) objects_) (objects_declared calls unit k x objects_ >> give On)) (sym h.1) (objects_do fuel line x objects_ h.0 h.2)
   form_declares fuel line (Subprogram flag) h = absurd h
   form_declares fuel line (Elaborated flag) h = absurd h
   form_declares fuel line (SingleTask symbol priority) h = absurd h
@@ -165,22 +169,22 @@ module _ (objects : List Region) (inside : List Entered) (code : List Step) (lin
       let none : nat_lt 0 (size (declaration_form_code r.depth form)) ≡ false = sym t ∙ e in
       grind (arith, nat_tests)
 
-  pub declarations_do : (fuel : ℕ) (ds : List DeclarationTree) → AreDeclared V C small ds → Does objects inside code linked lines unit r calls floor small room V address C below opened_ apart alike tell roomy fuel (declarations_code r.depth ds) (declarations calls unit ds >> give On)
-  declarations_do fuel [] h = nothing_does objects inside code linked lines unit r calls floor small room V address C below opened_ apart alike tell roomy fuel
+  pub declarations_do : (fuel : ℕ) (ds : List DeclarationTree) → AreDeclared V C small ds → Does objects inside code linked lines unit r calls floor small room V address C below opened_ linear apart alike tell roomy fuel (declarations_code r.depth ds) (declarations calls unit ds >> give On)
+  declarations_do fuel [] h = nothing_does objects inside code linked lines unit r calls floor small room V address C below opened_ linear apart alike tell roomy fuel
   declarations_do fuel (d ∷ ds) h =
       let c = declaration_form_code r.depth d.form in
-      let one_ = does_same objects inside code linked lines unit r calls floor small room V address C below opened_ apart alike tell roomy fuel (declaration_code r.depth d) (at_line unit d.line (declared calls unit d.form >> give On)) (at_line unit d.line (declared calls unit d.form) >> give On) (λ st. told_first d.line (declared calls unit d.form st))
-      (marked_does objects inside code linked lines unit r calls floor small room V address C below opened_ apart alike tell roomy fuel (declaration_has_code d.form) d.line c (declared calls unit d.form >> give On) (codeless d.form) (form_declares fuel d.line d.form h.0)) in
-      does_same objects inside code linked lines unit r calls floor small room V address C below opened_ apart alike tell roomy fuel (declaration_code r.depth d ++ declarations_code r.depth ds) ((at_line unit d.line (declared calls unit d.form) >> give On) >>= (λ x. flow_on x (declarations calls unit ds >> give On))) (declarations calls unit (d ∷ ds) >> give On)
+      let one_ = does_same objects inside code linked lines unit r calls floor small room V address C below opened_ linear apart alike tell roomy fuel (declaration_code r.depth d) (at_line unit d.line (declared calls unit d.form >> give On)) (at_line unit d.line (declared calls unit d.form) >> give On) (λ st. told_first d.line (declared calls unit d.form st))
+      (marked_does objects inside code linked lines unit r calls floor small room V address C below opened_ linear apart alike tell roomy fuel (declaration_has_code d.form) d.line c (declared calls unit d.form >> give On) (codeless d.form) (form_declares fuel d.line d.form h.0)) in
+      does_same objects inside code linked lines unit r calls floor small room V address C below opened_ linear apart alike tell roomy fuel (declaration_code r.depth d ++ declarations_code r.depth ds) ((at_line unit d.line (declared calls unit d.form) >> give On) >>= (λ x. flow_on x (declarations calls unit ds >> give On))) (declarations calls unit (d ∷ ds) >> give On)
       (λ st. in_turn (at_line unit d.line (declared calls unit d.form) st) (declarations calls unit ds))
-      (seq_does objects inside code linked lines unit r calls floor small room V address C below opened_ apart alike tell roomy fuel (declaration_code r.depth d) (declarations_code r.depth ds) (at_line unit d.line (declared calls unit d.form) >> give On) (declarations calls unit ds >> give On) one_ (declarations_do fuel ds h.1))
+      (seq_does objects inside code linked lines unit r calls floor small room V address C below opened_ linear apart alike tell roomy fuel (declaration_code r.depth d) (declarations_code r.depth ds) (at_line unit d.line (declared calls unit d.form) >> give On) (declarations calls unit ds >> give On) one_ (declarations_do fuel ds h.1))
 
   pub goes_on_with : (o : Outcome (Unit {0})) (f : Act Flow) → next (next o (λ x. give On)) (λ x. flow_on x f) ≡ next o (λ x. f)
   goes_on_with (Gives x e) f = refl
   goes_on_with (Raises e told z) f = refl
   goes_on_with (GoesOn z) f = refl
 
-  pub block_does : (fuel : ℕ) (ds : List DeclarationTree) (c : List Piece) (f : Act Flow) → AreDeclared V C small ds → Does objects inside code linked lines unit r calls floor small room V address C below opened_ apart alike tell roomy fuel c f → Does objects inside code linked lines unit r calls floor small room V address C below opened_ apart alike tell roomy fuel (declarations_code r.depth ds ++ c) (declarations calls unit ds >> f)
+  pub block_does : (fuel : ℕ) (ds : List DeclarationTree) (c : List Piece) (f : Act Flow) → AreDeclared V C small ds → Does objects inside code linked lines unit r calls floor small room V address C below opened_ linear apart alike tell roomy fuel c f → Does objects inside code linked lines unit r calls floor small room V address C below opened_ linear apart alike tell roomy fuel (declarations_code r.depth ds ++ c) (declarations calls unit ds >> f)
   block_does fuel ds c f h d =
-      does_same objects inside code linked lines unit r calls floor small room V address C below opened_ apart alike tell roomy fuel (declarations_code r.depth ds ++ c) ((declarations calls unit ds >> give On) >>= (λ x. flow_on x f)) (declarations calls unit ds >> f) (λ st. goes_on_with (declarations calls unit ds st) f)
-      (seq_does objects inside code linked lines unit r calls floor small room V address C below opened_ apart alike tell roomy fuel (declarations_code r.depth ds) c (declarations calls unit ds >> give On) f (declarations_do fuel ds h) d)
+      does_same objects inside code linked lines unit r calls floor small room V address C below opened_ linear apart alike tell roomy fuel (declarations_code r.depth ds ++ c) ((declarations calls unit ds >> give On) >>= (λ x. flow_on x f)) (declarations calls unit ds >> f) (λ st. goes_on_with (declarations calls unit ds st) f)
+      (seq_does objects inside code linked lines unit r calls floor small room V address C below opened_ linear apart alike tell roomy fuel (declarations_code r.depth ds) c (declarations calls unit ds >> give On) f (declarations_do fuel ds h) d)

@@ -1,20 +1,17 @@
 -- What code does, wherever it stands: assignments, sequences, marks.
-use Rattle.std.proofs.Common.{◌≡◌, ◌≢◌, ℕ, ◌+◌, ◌-◌, ◌<◌, ◌≤◌, ℤ, List, [], ◌∷◌, ◌++◌, Bool, true, false, ◌&&◌, Option, Some, None, Ok, Err, length, refl, sym, ◌∙◌, ap, subst, arith, inl, inr, ◌⊎◌, set, get_or, length-set, get_or-set_same, get_or-set_other}
-use Rattle.std.specs.Prelude.{pos, ◌+ℤ◌, if◌then◌else◌}
-use Rattle.al_view.specs.declared.link.LinkKind.TheVariants as links
+use Rattle.std.proofs.Common.{◌≡◌, ◌≢◌, ℕ, ◌+◌, ◌-◌, ◌<◌, ◌≤◌, ℤ, List, [], ◌∷◌, ◌++◌, Bool, true, false, Option, Some, None, Ok, Err, refl, sym, ◌∙◌, ap, subst, arith, inl, inr, ◌⊎◌, set, length-set, get_or-set_same, get_or-set_other}
+use Rattle.std.specs.Prelude.{pos, if◌then◌else◌}
 use Rattle.al_view.specs.declared.link.LinkSymbol.{LinkSymbol}
 use Rattle.al_view.specs.declared.view.ObjectPlace.{ObjectPlace}
 use Rattle.al_view_typed.specs.ExpressionTrees.{NameTree, ValueTree, CallTree}
-use Rattle.al_view_typed.specs.ExpressionTrees.NameTree.{ObjectName, ComponentName, IndexedName}
-use Rattle.al_view_typed.specs.ExpressionTrees.ValueTree.{Checked}
 use Rattle.al_instr.specs.declared.instruction.Instr.{Instr}
 use Rattle.al_instr.specs.declared.instruction.Instr.TheVariants as instr
 use Rattle.al_instr.specs.declared.numbers.Sized.TheVariants as sized
 use Rattle.al_instr.specs.Codes.{size_of}
 use Rattle.al_code.specs.declared.piece.Target.{Target}
 use Rattle.al_code.specs.Pieces.{Piece, Whole, size, line_word, Line}
-use Rattle.al_code.specs.ExprPieces.{of_size, place_code}
-use Rattle.al_code.specs.Templates.{checked_code}
+use Rattle.al_code.specs.ExprPieces.{of_size}
+use Rattle.al_code.specs.Templates.{address_of, checked_code}
 use Rattle.al_link_image.specs.declared.parts.Region.{Region}
 use Rattle.al_machine.specs.declared.regions.Entered.{Entered}
 use Rattle.al_machine.specs.declared.code.Step.{Step}
@@ -35,27 +32,28 @@ use Rattle.al_code.specs.Statements.{assignment_code}
 use Rattle.al_base.specs.declared.unit_key.UnitKey.{UnitKey}
 use Rattle.al_code.specs.LineLaws.{TreesTellCode}
 use Rattle.al_meaning.specs.Scalars.{Failure, ConstraintError, ProgramError, Meaningless, Valued, truth_of}
-use Rattle.al_meaning.specs.States.{State, Outcome, Gives, Raises, GoesOn, Act, next, ◌>>=◌, ◌>>◌, give, told_at, at_line, Words, with_words, store, same_place}
-use Rattle.al_meaning.specs.Expressions.{Calls, value, named}
-use Rattle.al_meaning.specs.Statements.{Flow, On, Exits, Returns, flow_on, done, form_done}
+use Rattle.al_meaning.specs.States.{further, State, Outcome, Gives, Raises, GoesOn, Act, next, ◌>>=◌, ◌>>◌, give, told_at, at_line, Words, with_words, store, same_place}
+use Rattle.al_meaning.specs.Expressions.{Calls, named}
+use Rattle.al_meaning.specs.Statements.{Flow, On, Exits, Returns, flow_on, form_done}
 use Rattle.al_meaning_code.specs.Running.{Lines, at, Leads, Traps, TrapsAt, Exhausts}
 use Rattle.al_meaning_code.specs.Standing.{Stands, AreOfLine, AreMarked}
 use Rattle.al_meaning_code.specs.Showing.{Pushed, Shows, Near}
-use Rattle.al_meaning_code.specs.Subset.{needs_value, IsVariable, IsInValue}
+use Rattle.al_meaning_code.specs.Subset.{needs_value, needs_name, IsName, IsInValue}
 use Rattle.al_meaning_code.specs.Effects.{table_line, line_or, RaisesAt, Runs}
 use Rattle.al_meaning_code.proofs.Machines.{leads_on, stays, traps_after, goes, carried_on, size_cons, size-append}
 use Rattle.al_meaning_code.proofs.Effects.{stores}
 use Rattle.al_meaning_code.proofs.Standing.{stands_front, stands_back}
 use Rattle.al_meaning_code.proofs.Operators.{two_truths}
 use Rattle.al_meaning_code.proofs.Expressions.{Short, Ends}
-use Rattle.al_meaning_code.proofs.Values.{Same, reaches_kept, pushed_shows, place_ends, checked_gives}
+use Rattle.al_meaning_code.proofs.Values.{Same, reaches_kept, pushed_shows, address_value, address_gives, checked_gives}
 use Rattle.al_meaning_code.proofs.Plain as plain
-use Rattle.al_meaning_code.proofs.Meant.{outcome, checked_value_meant}
-use Rattle.al_meaning_code.proofs.Unmarked.{checked_unmarked}
-use Rattle.al_meaning_code.proofs.Marked.{line_after, marked_front, marked_back, marked_empty, one_line}
+use Rattle.al_meaning_code.proofs.Plain.{Placed, placed_is, variable_in}
+use Rattle.al_meaning_code.proofs.Meant.{outcome, checked_value_meant, named_meant, placing}
+use Rattle.al_meaning_code.proofs.Unmarked.{address_unmarked, checked_unmarked}
+use Rattle.al_meaning_code.proofs.Marked.{marked_beyond, line_after, marked_front, marked_back, marked_empty, one_line}
 
 module _ (objects : List Region) (inside : List Entered) (code : List Step) (linked : LinkSymbol → Instr → Instr) (lines : Lines) (unit : UnitKey) (r : Routine) (calls : Calls) (floor small room : ℕ) (V : ObjectPlace → Type 0) (address : ObjectPlace → ℕ) (C : CallTree → Type 0)
-    (below : (p : ObjectPlace) → V p → address p < floor) (opened_ : (p : ObjectPlace) → V p → is_open objects inside 0 (address p) 1 ≡ true)
+    (below : (p : ObjectPlace) → V p → address p < floor) (opened_ : (p : ObjectPlace) → V p → is_open objects inside 0 (address p) 1 ≡ true) (linear : (p : ObjectPlace) (k : ℕ) → V p → V (further p k) → address (further p k) ≡ address p + k)
     (apart : (p q : ObjectPlace) → V p → V q → same_place p q ≡ false → address p ≢ address q) (alike : (p q : ObjectPlace) → V p → V q → same_place p q ≡ true → address p ≡ address q) (tell : TreesTellCode) (roomy : small ≤ room) where
   abbrev pub Showing : (ObjectPlace → ℤ) → Machine → Type 0
   Showing words m = Shows linked r.depth floor V address words m
@@ -232,37 +230,38 @@ module _ (objects : List Region) (inside : List Entered) (code : List Step) (lin
       held z o h there other true e = ap (λ (k : ℕ). word_at z k) (sym (alike p o var h e)) ∙ there
       held z o h there other false e = other (address o) (below o h) (apart p o var h e) ∙ s.holds o h
 
-  -- what is assigned to a whole variable
-  pub assigned : (p : ObjectPlace) → State → Valued → Outcome Flow
-  assigned p st (Ok v) = Gives On (record st { words = with_words p (v ∷ []) st.words })
-  assigned p st (Err f) = Raises f None st
+  -- what is assigned to a variable or a component
+  stored_at : State → ℤ → Placed → Outcome Flow
+  stored_at st v (Ok p) = Gives On (record st { words = with_words p (v ∷ []) st.words })
+  stored_at st v (Err f) = Raises f None st
 
-  assigned_meant : (target_ : NameTree) (p : ObjectPlace) (st : State) (o : Valued) → ((s : State) → named calls target_ s ≡ Gives p s) → next (outcome st o) (λ vs. named calls target_ >>= (λ place. store place vs >> give On)) ≡ assigned p st o
-  unfolding assigned
-  assigned_meant target_ p st (Ok v) e = ap (λ (x : Outcome ObjectPlace). next x (λ place. store place (v ∷ []) >> give On)) (e st)
-  assigned_meant target_ p st (Err f) e = refl
+  assigned : Placed → State → Valued → Outcome Flow
+  assigned o st (Ok v) = stored_at st v o
+  assigned o st (Err f) = Raises f None st
 
-  pub assign_does : (fuel line : ℕ) (target_ : NameTree) (w : ℕ) (x : ValueTree) → IsVariable V target_ → w ≡ 1 → IsInValue V x → needs_value x ≤ room → DoesAt fuel line (assignment_code r.depth target_ w x) (form_done calls unit r.depth fuel (AssignmentStatement target_ w x))
+  stored_meant : (st : State) (v : ℤ) (o : Placed) → next (placing st o) (λ place. store place (v ∷ []) >> give On) ≡ stored_at st v o
+  unfolding stored_at
+  stored_meant st v (Ok p) = refl
+  stored_meant st v (Err f) = refl
+
+  assigned_meant : (target_ : NameTree) (o : Placed) (st : State) (x : Valued) → named calls target_ st ≡ placing st o → next (outcome st x) (λ vs. named calls target_ >>= (λ place. store place vs >> give On)) ≡ assigned o st x
   unfolding assigned
-  assign_does fuel line (ComponentName whole_ offset) w x h = absurd h
-  assign_does fuel line (IndexedName array index bounds words) w x h = absurd h
-  assign_does fuel line (ObjectName p is_constant) w x h = λ one_ hx fits st ends pc m s stands marks.
-      subst (λ (o : Outcome Flow). Ran ends (unit, line) pc m (pc + size (assignment_code r.depth (ObjectName p is_constant) w x)) fuel o)
-      (sym (ap (λ (o : Outcome Words). next o (λ vs. named calls (ObjectName p is_constant) >>= (λ place. store place vs >> give On))) (checked_value_meant calls V st x hx) ∙ assigned_meant (ObjectName p is_constant) p st (plain.checked_value st.words x) (λ q. refl)))
-      (subst (λ (k : ℕ). StandsHere ends pc (assignment_code r.depth (ObjectName p is_constant) k x) → AreMarked lines unit line pc (assignment_code r.depth (ObjectName p is_constant) k x) → Ran ends (unit, line) pc m (pc + size (assignment_code r.depth (ObjectName p is_constant) k x)) fuel (assigned p st (plain.checked_value st.words x))) (sym one_)
-      (λ sd mk. go hx fits st ends pc m s sd mk) stands marks)
+  assigned_meant target_ o st (Ok v) e = ap (λ (x : Outcome ObjectPlace). next x (λ place. store place (v ∷ []) >> give On)) e ∙ stored_meant st v o
+  assigned_meant target_ o st (Err f) e = refl
+
+  pub assign_does : (fuel line : ℕ) (target_ : NameTree) (w : ℕ) (x : ValueTree) → IsName V target_ → w ≡ 1 → IsInValue V x → needs_value x ≤ room → 1 + needs_name target_ ≤ room → DoesAt fuel line (assignment_code r.depth target_ w x) (form_done calls unit r.depth fuel (AssignmentStatement target_ w x))
+  unfolding assigned stored_at
+  assign_does fuel line target_ w x h = λ one_ hx fits fits_t st ends pc m s stands marks.
+      subst (λ (o : Outcome Flow). Ran ends (unit, line) pc m (pc + size (assignment_code r.depth target_ w x)) fuel o)
+      (sym (ap (λ (o : Outcome Words). next o (λ vs. named calls target_ >>= (λ place. store place vs >> give On))) (checked_value_meant calls V st x hx) ∙ assigned_meant target_ (plain.placed st.words target_) st (plain.checked_value st.words x) (named_meant calls V st target_ h)))
+      (subst (λ (k : ℕ). StandsHere ends pc (assignment_code r.depth target_ k x) → AreMarked lines unit line pc (assignment_code r.depth target_ k x) → Ran ends (unit, line) pc m (pc + size (assignment_code r.depth target_ k x)) fuel (assigned (plain.placed st.words target_) st (plain.checked_value st.words x))) (sym one_)
+      (λ sd mk. go hx fits fits_t st ends pc m s sd mk) stands marks)
     where
       pcode : List Piece
-      pcode = place_code links.Data r.depth p
+      pcode = address_of r.depth target_
 
-      two : 2 ≤ needs_value x
-      two = two_value x
-        where
-          two_value : (y : ValueTree) → 2 ≤ needs_value y
-          two_value (Checked y b) = omega arith
-
-      go : IsInValue V x → needs_value x ≤ room → (st : State) (ends : Target → ℕ) (pc : ℕ) (m : Machine) → Showing st.words m → StandsHere ends pc ((checked_code r.depth x ++ pcode) ++ of_size sized.Store 1) → AreMarked lines unit line pc ((checked_code r.depth x ++ pcode) ++ of_size sized.Store 1) → Ran ends (unit, line) pc m (pc + size ((checked_code r.depth x ++ pcode) ++ of_size sized.Store 1)) fuel (assigned p st (plain.checked_value st.words x))
-      go hx fits st ends pc m s sd mk =
+      go : IsInValue V x → needs_value x ≤ room → 1 + needs_name target_ ≤ room → (st : State) (ends : Target → ℕ) (pc : ℕ) (m : Machine) → Showing st.words m → StandsHere ends pc ((checked_code r.depth x ++ pcode) ++ of_size sized.Store 1) → AreMarked lines unit line pc ((checked_code r.depth x ++ pcode) ++ of_size sized.Store 1) → Ran ends (unit, line) pc m (pc + size ((checked_code r.depth x ++ pcode) ++ of_size sized.Store 1)) fuel (assigned (plain.placed st.words target_) st (plain.checked_value st.words x))
+      go hx fits fits_t st ends pc m s sd mk =
           let c = checked_code r.depth x in
           let store_ = of_size sized.Store 1 in
           let front = stands_front code linked ends pc (c ++ pcode) store_ sd in
@@ -272,26 +271,38 @@ module _ (objects : List Region) (inside : List Entered) (code : List Step) (lin
           let same : pc + size (c ++ pcode) ≡ (pc + size c) + size pcode = omega (arith, size-append c pcode) in
           let ss = subst (λ (k : ℕ). StandsHere ends k store_) same (stands_back code linked ends pc (c ++ pcode) store_ sd) in
           let mc = marked_front lines unit line pc c pcode (marked_front lines unit line pc (c ++ pcode) store_ mk) in
-          value_runs (λ (i : ℕ). ends (target.Loop i)) (ends target.Routine) line (unit, line) (at pc m) m pc (pc + size c) (pc + size ((c ++ pcode) ++ store_)) fuel (needs_value x) (plain.checked_value st.words x) (assigned p st)
+          value_runs (λ (i : ℕ). ends (target.Loop i)) (ends target.Routine) line (unit, line) (at pc m) m pc (pc + size c) (pc + size ((c ++ pcode) ++ store_)) fuel (needs_value x) (plain.checked_value st.words x) (assigned (plain.placed st.words target_) st)
           (one_line lines unit line pc c (checked_unmarked V r.depth x hx) mc) fits
-          (checked_gives objects inside code linked r.depth floor V address below opened_ st.words x hx ends pc m s sc)
+          (checked_gives objects inside code linked r.depth floor V address below opened_ linear st.words x hx ends pc m s sc)
           (λ f raised. failed f raised)
-          (λ v n y. after st ends pc m s v n y ss total (place_ends objects inside code linked r.depth floor V address below opened_ st.words ends p (pc + size c) n h (pushed_shows objects inside code linked r.depth floor V address below opened_ st.words m n v s y) sp) fits)
+          (λ v n y. after st ends pc m s v n y ss total (one_line lines unit line (pc + size c) pcode (address_unmarked V r.depth target_ h) (marked_beyond lines unit line pc c pcode (checked_unmarked V r.depth x hx) (marked_front lines unit line pc (c ++ pcode) store_ mk)))
+          (plain.placed st.words target_) (λ q e. variable_in V target_ q h (placed_is st.words target_ q e)) (address_gives objects inside code linked r.depth floor V address below opened_ linear st.words target_ h ends (pc + size c) n (pushed_shows objects inside code linked r.depth floor V address below opened_ linear st.words m n v s y) sp) fits_t)
         where
-          failed : (f : Failure) → RaisesAt objects inside code lines room (unit, line_word line) (at pc m) m f → Ran ends (unit, line) pc m (pc + size ((checked_code r.depth x ++ pcode) ++ of_size sized.Store 1)) fuel (assigned p st (Err f))
+          failed : (f : Failure) → RaisesAt objects inside code lines room (unit, line_word line) (at pc m) m f → Ran ends (unit, line) pc m (pc + size ((checked_code r.depth x ++ pcode) ++ of_size sized.Store 1)) fuel (assigned (plain.placed st.words target_) st (Err f))
           failed f raised = raised
 
-          after : (st : State) (ends : Target → ℕ) (pc : ℕ) (m : Machine) → Showing st.words m → (v : ℤ) (n : Machine) → Pushed m n v → StandsHere ends ((pc + size (checked_code r.depth x)) + size pcode) (of_size sized.Store 1) → ((pc + size (checked_code r.depth x)) + size pcode) + size (of_size sized.Store 1) ≡ pc + size ((checked_code r.depth x ++ pcode) ++ of_size sized.Store 1) → Ends objects inside code (at (pc + size (checked_code r.depth x)) n) (pc + size (checked_code r.depth x)) n ((pc + size (checked_code r.depth x)) + size pcode) 1 (Ok (pos (address p))) → needs_value x ≤ room → Runs objects inside code lines linked r.depth floor room V address (λ (i : ℕ). ends (target.Loop i)) (ends target.Routine) (unit, line) (at (pc + size (checked_code r.depth x)) n) m (pc + size ((checked_code r.depth x ++ pcode) ++ of_size sized.Store 1)) fuel (assigned p st (Ok v))
-          after st ends pc m s v n y ss total (inl z) fits =
+          after : (st : State) (ends : Target → ℕ) (pc : ℕ) (m : Machine) → Showing st.words m → (v : ℤ) (n : Machine) → Pushed m n v → StandsHere ends ((pc + size (checked_code r.depth x)) + size pcode) (of_size sized.Store 1) → ((pc + size (checked_code r.depth x)) + size pcode) + size (of_size sized.Store 1) ≡ pc + size ((checked_code r.depth x ++ pcode) ++ of_size sized.Store 1)
+              → AreOfLine lines unit line (pc + size (checked_code r.depth x)) ((pc + size (checked_code r.depth x)) + size pcode) → (o : Placed) → ((q : ObjectPlace) → o ≡ Ok q → V q) → Ends objects inside code (at (pc + size (checked_code r.depth x)) n) (pc + size (checked_code r.depth x)) n ((pc + size (checked_code r.depth x)) + size pcode) (needs_name target_) (address_value objects inside code linked r.depth floor V address below opened_ linear o) → 1 + needs_name target_ ≤ room
+              → Runs objects inside code lines linked r.depth floor room V address (λ (i : ℕ). ends (target.Loop i)) (ends target.Routine) (unit, line) (at (pc + size (checked_code r.depth x)) n) m (pc + size ((checked_code r.depth x ++ pcode) ++ of_size sized.Store 1)) fuel (stored_at st v o)
+          after st ends pc m s v n y ss total of_line (Ok p) h_ (inl z) fits_t =
               let pc1 = pc + size (checked_code r.depth x) in
               let pc2 = pc1 + size pcode in
               let exits : ℕ → ℕ = λ i. ends (target.Loop i) in
-              let ran = store_runs st exits (ends target.Routine) (unit, line) p ends pc2 fuel m n z.0 v h s y z.2 ss in
-              runs_after exits (ends target.Routine) (unit, line) (at pc1 n) (at pc2 z.0) m m _ fuel fuel (assigned p st (Ok v)) (near_self m) z.1 (omega arith)
-              (subst (λ (k : ℕ). Runs objects inside code lines linked r.depth floor room V address exits (ends target.Routine) (unit, line) (at pc2 z.0) m k fuel (assigned p st (Ok v))) total ran)
-          after st ends pc m s v n y ss total (inr z) fits =
-              let f = y.first in let t = y.top in let l = z.0 in let tw = two in
+              let ran = store_runs st exits (ends target.Routine) (unit, line) p ends pc2 fuel m n z.0 v (h_ p refl) s y z.2 ss in
+              runs_after exits (ends target.Routine) (unit, line) (at pc1 n) (at pc2 z.0) m m _ fuel fuel (stored_at st v (Ok p)) (near_self m) z.1 (omega arith)
+              (subst (λ (k : ℕ). Runs objects inside code lines linked r.depth floor room V address exits (ends target.Routine) (unit, line) (at pc2 z.0) m k fuel (stored_at st v (Ok p))) total ran)
+          after st ends pc m s v n y ss total of_line (Ok p) h_ (inr z) fits_t =
+              let f = y.first in let t = y.top in let l = z.0 in
               inr (omega arith, pc + size (checked_code r.depth x), (pc + size (checked_code r.depth x)) + size pcode, z.1)
+          after st ends pc m s v n y ss total of_line (Err ConstraintError) h_ (inl t) fits_t = inl (record { last = t.last; leads = t.leads; next = t.next; instruction = t.instruction; there = t.there; raises = t.raises; told = of_line t.last.place t.low t.high })
+          after st ends pc m s v n y ss total of_line (Err ConstraintError) h_ (inr z) fits_t =
+              let f = y.first in let t = y.top in let l = z.0 in
+              inr (omega arith, pc + size (checked_code r.depth x), (pc + size (checked_code r.depth x)) + size pcode, z.1)
+          after st ends pc m s v n y ss total of_line (Err ProgramError) h_ (inl t) fits_t = inl (record { last = t.last; leads = t.leads; next = t.next; instruction = t.instruction; there = t.there; raises = t.raises; told = of_line t.last.place t.low t.high })
+          after st ends pc m s v n y ss total of_line (Err ProgramError) h_ (inr z) fits_t =
+              let f = y.first in let t = y.top in let l = z.0 in
+              inr (omega arith, pc + size (checked_code r.depth x), (pc + size (checked_code r.depth x)) + size pcode, z.1)
+          after st ends pc m s v n y ss total of_line (Err Meaningless) h_ z fits_t = tt
 
   -- ---- sequences and marks
 

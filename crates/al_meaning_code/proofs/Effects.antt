@@ -1,26 +1,18 @@
 -- What single instructions leave, told by the words below the top of the stack.
-use Rattle.std.proofs.Common.{◌≡◌, ◌≢◌, ℕ, zero, suc, ◌+◌, ◌-◌, ◌<◌, ◌≤◌, ℤ, List, [], ◌∷◌, ◌++◌, Bool, true, false, cond, ◌&&◌, ◌==◌, Option, Some, None, Result, Ok, Err, length, get_or, set, nat_le, refl, sym, ◌∙◌, ap, subst, arith, inl, inr, ◌⊎◌, length-set, get_or-set_same, get_or-set_other}
-use Rattle.std.proofs.lemmas.List.{set-set}
+use Rattle.std.proofs.Common.{◌≡◌, ◌≢◌, ℕ, ◌+◌, ◌-◌, ◌<◌, ◌≤◌, ℤ, List, true, false, ◌&&◌, Ok, Err, length, set, nat_le, refl, sym, ◌∙◌, ap, arith, length-set, get_or-set_same, get_or-set_other}
 use Rattle.std.proofs.lemmas.Bool.Decides.{nat_tests}
-use Rattle.std.specs.Prelude.{pos, negsuc, int_le, if◌then◌else◌}
-use Rattle.std.specs.Ordering.{int_eq}
+use Rattle.std.proofs.lemmas.Int.{ints}
+use Rattle.std.specs.Prelude.{pos, ◌+ℤ◌, ◌-ℤ◌, ◌*ℤ◌, nat_lt, int_le, if◌then◌else◌}
 use Rattle.al_link_image.specs.declared.parts.Region.{Region}
 use Rattle.al_machine.specs.declared.regions.Entered.{Entered}
 use Rattle.al_machine.specs.declared.instruction.BinaryOperator.{BinaryOperator}
 use Rattle.al_machine.specs.declared.instruction.UnaryOperator.{UnaryOperator}
 use Rattle.al_machine.specs.declared.instruction.Exception.TheVariants as exception
-use Rattle.al_machine.specs.declared.instruction.Flow.{Flow}
-use Rattle.al_machine.specs.declared.instruction.Flow.TheVariants.{On, To}
-use Rattle.al_machine.specs.declared.instruction.Trap.{Trap}
-use Rattle.al_machine.specs.declared.instruction.Trap.TheVariants.{Raised, Stuck}
-use Rattle.al_machine.specs.declared.instruction.Instruction.{Instruction}
-use Rattle.al_machine.specs.declared.instruction.Instruction.TheVariants as kind
+use Rattle.al_machine.specs.declared.instruction.Trap.TheVariants.{Raised}
 use Rattle.al_machine.specs.Arithmetic.{operated, changed}
 use Rattle.al_machine.specs.Machine.{Machine, IsWithin}
 use Rattle.al_machine.specs.Stack.{word_at, holds, has_room, put, put_result, pushed, checked, binary, unary}
-use Rattle.al_machine.specs.Memory.{is_open, copied, reached, load_from, loaded, store_to, stored, zeroed, zero_at, cleared}
-use Rattle.al_machine.specs.Frames.{followed, own_place, framed, push_address}
-use Rattle.al_machine.specs.Table.{on, exec}
+use Rattle.al_machine.specs.Memory.{is_open, copied, loaded, stored, zeroed, cleared, put_address, offset, indexed}
 use Rattle.al_meaning_code.proofs.Memories.{one_copied}
 use Rattle.al_meaning_code.specs.Showing.{Pushed}
 
@@ -101,6 +93,29 @@ module _ (objects : List Region) (inside : List Entered) (m : Machine) where
       let top : word_at p (p.top - 1) ≡ pos place = ap (λ (k : ℕ). word_at p k) down ∙ push.word in
       let long : nat_le (place + 1) (length p.memory) ≡ true = grind (arith, nat_tests) in
       rw (held, top, long, opened, down) refl
+
+  -- so many words are added to the address on top
+  pub offsets : (p : Machine) (place words : ℕ) → IsWithin m → Pushed m p (pos place) → place + words ≤ 281474976710656 → offset words p ≡ Ok (put m.top p (pos (place + words)))
+  unfolding offset
+  offsets p place words within push fits =
+      let s = within.stack in let pt = push.top in let pr = push.frame in
+      let held : holds 1 p ≡ true = grind (arith, nat_tests) in
+      let down : p.top - 1 ≡ m.top = omega arith in
+      let sum : pos place +ℤ pos words ≡ pos (place + words) = omega (arith, ints) in
+      let is : nat_lt (place + words) 9223372036854775808 ≡ true = grind (arith, nat_tests) in
+      rw (held, down) (ap (λ (z : ℤ). put_address m.top p (z +ℤ pos words)) push.word ∙ ap (λ (z : ℤ). put_address m.top p z) sum ∙ rw is refl)
+
+  -- an address of an array and an index become the address of the component
+  pub indexes : (low high : ℤ) (words : ℕ) (n p : Machine) (place : ℕ) (i : ℤ) → IsWithin m → Pushed m n (pos place) → Pushed n p i → indexed low high words p ≡ (if int_le low i && int_le i high then put_address m.top p (pos place +ℤ ((i -ℤ low) *ℤ pos words)) else Err (Raised exception.Constraint))
+  unfolding indexed
+  indexes low high words n p place i within x y =
+      let s = within.stack in let t1 = x.top in let t2 = y.top in let f1 = x.frame in let f2 = y.frame in
+      let held : holds 2 p ≡ true = grind (arith, nat_tests) in
+      let down : p.top - 2 ≡ m.top = omega arith in
+      let second : m.top + 1 ≡ n.top = omega arith in
+      let left : word_at p m.top ≡ pos place = y.kept m.top (omega arith) ∙ x.word in
+      let right : word_at p (m.top + 1) ≡ i = ap (λ (k : ℕ). word_at p k) second ∙ y.word in
+      rw (held, down, left, right) refl
 
 -- an operator on the two words above m
 pub operates : (o : BinaryOperator) (m n p : Machine) (a b : ℤ) → IsWithin m → Pushed m n a → Pushed n p b → binary o p ≡ put_result m.top p (operated o a b)

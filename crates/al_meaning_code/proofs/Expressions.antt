@@ -1,70 +1,45 @@
 -- The code of scalar expressions pushes their values, or raises their exceptions.
-use Rattle.std.proofs.Common.{◌≡◌, ◌≢◌, ℕ, zero, suc, ◌+◌, ◌-◌, ◌<◌, ◌≤◌, max, ℤ, List, [], ◌∷◌, ◌++◌, Bool, true, false, cond, ◌&&◌, Option, Some, None, Result, Ok, Err, length, refl, sym, ◌∙◌, ap, subst, arith, inl, inr, ◌⊎◌, ⊎_elim}
+use Rattle.std.proofs.Common.{◌≡◌, ℕ, ◌+◌, ◌<◌, ◌≤◌, ℤ, List, [], ◌∷◌, Bool, true, false, ◌&&◌, Option, Some, None, Result, Ok, Err, refl, ◌∙◌, ap, subst, arith, inl, inr, ◌⊎◌, ⊎_elim}
 use Rattle.std.proofs.lemmas.Bool.{cases_lt}
-use Rattle.std.proofs.lemmas.Bool.Decides.{nat_tests}
-use Rattle.std.specs.Prelude.{⊤, pos, negsuc, option_and_then, ◌+ℤ◌, int_le, if◌then◌else◌}
-use Rattle.al_view.specs.ViewUses.{link}
-use Rattle.al_view.specs.declared.link.LinkKind.TheVariants as links
+use Rattle.std.specs.Prelude.{⊤, int_le, if◌then◌else◌}
 use Rattle.al_view.specs.declared.link.LinkSymbol.{LinkSymbol}
 use Rattle.al_view.specs.declared.types.Bounds.{Bounds}
-use Rattle.al_view.specs.declared.types.StaticValue.{StaticValue}
-use Rattle.al_view.specs.declared.view.ObjectPlace.{ObjectPlace}
-use Rattle.al_view.specs.declared.view.ObjectPlace.TheVariants as places
 use Rattle.al_view_typed.specs.declared.label.BinaryOperator.{BinaryOperator}
-use Rattle.al_view_typed.specs.declared.label.Conversion.{Conversion}
-use Rattle.al_view_typed.specs.declared.label.Conversion.TheVariants as conversions
 use Rattle.al_view_typed.specs.declared.label.UnaryOperator.{UnaryOperator}
 use Rattle.al_view_typed.specs.declared.label.UnaryOperator.TheVariants as unary
-use Rattle.al_view_typed.specs.declared.label.ShortCircuit.{ShortCircuit}
-use Rattle.al_view_typed.specs.declared.label.ShortCircuit.TheVariants as short
-use Rattle.al_view_typed.specs.ExpressionTrees.{TypedTree, FormTree, NameTree, ValueTree}
-use Rattle.al_view_typed.specs.ExpressionTrees.TypedTree.{Labelled}
-use Rattle.al_view_typed.specs.ExpressionTrees.FormTree.{LiteralForm, NamedForm, UnaryForm, BinaryForm, ShortCircuitForm, MembershipForm, ConvertedForm, AggregateForm, OthersForm, CallForm, ClockForm}
-use Rattle.al_view_typed.specs.ExpressionTrees.NameTree.{ObjectName, ComponentName, IndexedName}
-use Rattle.al_view_typed.specs.ExpressionTrees.ValueTree.{Checked}
 use Rattle.al_instr.specs.declared.instruction.Instr.{Instr}
 use Rattle.al_instr.specs.declared.instruction.Instr.TheVariants as instr
 use Rattle.al_instr.specs.declared.numbers.Plain.{Plain as PlainOne}
-use Rattle.al_instr.specs.declared.numbers.Plain.TheVariants as plain
-use Rattle.al_instr.specs.declared.numbers.Sized.TheVariants as sized
 use Rattle.al_instr.specs.Codes.{encoded, size_of}
-use Rattle.al_code.specs.declared.piece.JumpCondition.TheVariants as when
 use Rattle.al_code.specs.declared.piece.Target.{Target}
-use Rattle.al_code.specs.Pieces.{Piece, Whole, Using, size}
-use Rattle.al_code.specs.ExprPieces.{one, of_size, number, check_code, place_code}
-use Rattle.al_code.specs.Templates.{value_of, form_code, address_of, checked_code, converted_code, unary_code, binary_code, step_code, short_code, words_of}
+use Rattle.al_code.specs.Pieces.{Piece, Whole, size}
+use Rattle.al_code.specs.ExprPieces.{check_code}
+use Rattle.al_code.specs.Templates.{unary_code, binary_code}
 use Rattle.al_link_image.specs.declared.parts.Region.{Region}
 use Rattle.al_machine.specs.declared.regions.Entered.{Entered}
 use Rattle.al_machine.specs.declared.code.Step.{Step}
 use Rattle.al_machine.specs.declared.instruction.Exception.TheVariants as exception
-use Rattle.al_machine.specs.declared.instruction.Flow.{Flow}
-use Rattle.al_machine.specs.declared.instruction.Flow.TheVariants.{On, To}
 use Rattle.al_machine.specs.declared.instruction.Trap.{Trap}
-use Rattle.al_machine.specs.declared.instruction.Trap.TheVariants.{Raised, Stuck}
+use Rattle.al_machine.specs.declared.instruction.Trap.TheVariants.{Raised}
 use Rattle.al_machine.specs.declared.instruction.Instruction.{Instruction}
 use Rattle.al_machine.specs.declared.instruction.Instruction.TheVariants as kind
 use Rattle.al_machine.specs.declared.operation.Operation.{Operation}
 use Rattle.al_machine.specs.declared.operation.Operation.TheVariants as operation
-use Rattle.al_machine.specs.Operations.{operation_of, plain_operation, sized_operation}
+use Rattle.al_machine.specs.Operations.{operation_of}
 use Rattle.al_machine.specs.Code.{fetch}
 use Rattle.al_machine.specs.Machine.{Machine, IsWithin}
-use Rattle.al_machine.specs.Stack.{word_at, put, put_result, pushed, checked, binary}
-use Rattle.al_machine.specs.Memory.{is_open, loaded}
+use Rattle.al_machine.specs.Stack.{put, put_result, pushed}
 use Rattle.al_machine.specs.Arithmetic.{operated, changed}
-use Rattle.al_machine.specs.declared.instruction.BinaryOperator.TheVariants as machine
 use Rattle.al_machine.specs.Bursts.{At}
-use Rattle.al_machine.specs.Frames.{followed, own_place, framed, push_address}
 use Rattle.al_machine.specs.Table.{on, exec}
-use Rattle.al_meaning.specs.Scalars.{Failure, ConstraintError, ProgramError, Meaningless, Valued, within, number_of, truth_of, with_truth, applied, applied_to, stepped}
-use Rattle.al_meaning_code.proofs.Plain.{then_value, Variables, or_static, decided, named, value, value_of_form, converted, checked_value}
-use Rattle.al_meaning_code.proofs.Machines.{leads_on, stays, traps_after, goes, fails, size_cons, size-append}
+use Rattle.al_meaning.specs.Scalars.{Failure, ConstraintError, ProgramError, Meaningless, Valued, within, applied, applied_to}
+use Rattle.al_meaning_code.proofs.Plain.{then_value}
+use Rattle.al_meaning_code.proofs.Machines.{leads_on, stays, traps_after, goes, fails, size_cons}
 use Rattle.al_meaning_code.specs.Running.{at, Leads, Traps}
-use Rattle.al_meaning_code.proofs.Effects.{within_put, put_pushed, self_pushed, pushes, pushes_not, loads, operates, changes, checks}
+use Rattle.al_meaning_code.proofs.Effects.{put_pushed, self_pushed, pushes, pushes_not, operates, changes, checks}
 use Rattle.al_meaning_code.specs.Showing.{Pushed}
-use Rattle.al_meaning_code.proofs.Standing.{stands_front, stands_back}
-use Rattle.al_meaning_code.specs.Subset.{needs, needs_of, needs_form, needs_value}
 use Rattle.al_meaning_code.specs.Standing.{Stands}
-use Rattle.al_meaning_code.proofs.Operators.{plain_for, operator_for, binary_is, operation_is, agree-applied, agree-number, unary_plain, unary_for, unary_operation_is, agree-changed}
+use Rattle.al_meaning_code.proofs.Operators.{plain_for, operator_for, binary_is, operation_is, agree-applied, unary_plain, unary_for, unary_operation_is, agree-changed}
 use Rattle.al_meaning_code.specs.Laws.{Agree}
 use Rattle.al_meaning_code.specs.Subset.{IsScalar}
 
@@ -89,9 +64,24 @@ module _ (objects : List Region) (inside : List Entered) (code : List Step) wher
   Ends a from m to need (Err Meaningless) = ⊤
 
   -- short of room further on
-  short_after : (a b : At) (n m : Machine) (from to from' to' need need' : ℕ) → n.first ≡ m.first → n.top + need ≤ m.top + need' → from' ≤ from → to ≤ to' → Leads objects inside code a b → Short b from n to need → Short a from' m to' need'
+  pub short_after : (a b : At) (n m : Machine) (from to from' to' need need' : ℕ) → n.first ≡ m.first → n.top + need ≤ m.top + need' → from' ≤ from → to ≤ to' → Leads objects inside code a b → Short b from n to need → Short a from' m to' need'
   short_after a b n m from to from' to' need need' first room low high l s =
       let lack = s.0 in (omega arith, traps_after objects inside code a b from' to' from to exception.Storage low high l s.1)
+
+  -- short of room, whatever is meant
+  pub short_any : (a : At) (m : Machine) (from to need : ℕ) (o : Valued) → Short a from m to need → Ends a from m to need o
+  short_any a m from to need (Ok v) s = inr s
+  short_any a m from to need (Err ConstraintError) s = inr s
+  short_any a m from to need (Err ProgramError) s = inr s
+  short_any a m from to need (Err Meaningless) s = tt
+
+  -- a failure, as seen from before and over more code
+  pub fails_on : (a b : At) (n m : Machine) (from to from' to' need need' : ℕ) (f : Failure) → n.first ≡ m.first → n.top + need ≤ m.top + need' → from' ≤ from → to ≤ to' → Leads objects inside code a b → Ends b from n to need (Err f) → Ends a from' m to' need' (Err f)
+  fails_on a b n m from to from' to' need need' ConstraintError first room low high l (inl t) = inl (traps_after objects inside code a b from' to' from to exception.Constraint low high l t)
+  fails_on a b n m from to from' to' need need' ConstraintError first room low high l (inr s) = inr (short_after a b n m from to from' to' need need' first room low high l s)
+  fails_on a b n m from to from' to' need need' ProgramError first room low high l (inl t) = inl (traps_after objects inside code a b from' to' from to exception.Program low high l t)
+  fails_on a b n m from to from' to' need need' ProgramError first room low high l (inr s) = inr (short_after a b n m from to from' to' need need' first room low high l s)
+  fails_on a b n m from to from' to' need need' Meaningless first room low high l x = tt
 
   pub ends_after : (a b : At) (m : Machine) (from from' to need : ℕ) (o : Valued) → from' ≤ from → Leads objects inside code a b → Ends b from m to need o → Ends a from' m to need o
   ends_after a b m from from' to need (Ok v) low l (inl x) = inl (x.0, leads_on objects inside code a b (at to x.0) l x.1, x.2)

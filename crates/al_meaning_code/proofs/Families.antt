@@ -1,5 +1,5 @@
 -- Calls of procedures that call each other, so many deep.
-use Rattle.std.proofs.Common.{◌≡◌, ◌≢◌, ℕ, zero, suc, ◌+◌, ◌-◌, ◌==◌, ◌<◌, ◌≤◌, List, [], ◌∷◌, ◌++◌, Bool, true, false, ◌&&◌, Option, Some, refl, sym, ◌∙◌, ap, subst, arith, inl, inr, ◌⊎◌, ⊎_elim}
+use Rattle.std.proofs.Common.{◌≡◌, ◌≢◌, ℕ, zero, suc, ◌+◌, ◌<◌, ◌≤◌, List, [], ◌∷◌, ◌++◌, Bool, true, false, Option, Some, refl, sym, ◌∙◌, ap, subst, arith, inl, inr, ⊎_elim}
 use Rattle.std.proofs.lemmas.Bool.{cases_lt}
 use Rattle.al_base.specs.declared.unit_key.UnitKey.{UnitKey}
 use Rattle.al_view.specs.ViewUses.{link}
@@ -31,7 +31,7 @@ use Rattle.al_machine.specs.Code.{fetch}
 use Rattle.al_machine.specs.Machine.{Machine}
 use Rattle.al_machine.specs.Memory.{is_open}
 use Rattle.al_machine.specs.Table.{on, exec}
-use Rattle.al_meaning.specs.States.{State, next, give, same_place, Act, Words, Gives, Raises, GoesOn, Outcome}
+use Rattle.al_meaning.specs.States.{further, State, next, give, same_place, Act, Words, Gives, Raises, GoesOn, Outcome}
 use Rattle.al_meaning.specs.Expressions.{called}
 use Rattle.al_meaning.specs.Statements.{all_done}
 use Rattle.al_meaning.specs.Partitions.{fresh, found_body, calls_of, start, item_elaborated, items_elaborated}
@@ -42,7 +42,7 @@ use Rattle.al_meaning_code.specs.Effects.{CallRuns}
 use Rattle.al_meaning_code.proofs.Standing.{stands_front, stands_back, opened, size-closed, inner}
 use Rattle.al_meaning_code.proofs.Marked.{marked_front, marked_opened}
 use Rattle.al_meaning_code.proofs.Statements.{statements_do}
-use Rattle.al_meaning_code.specs.Laws.{Joined, Setting, Globals, Among, IsLaidOut, procedure, call_of, IsCallOf, SeenInside, IsMember, IsFamily, stack_for, CallsAreDone, StatementsAreDone, AreWithoutElaboration, PartitionsAreDone}
+use Rattle.al_meaning_code.specs.Laws.{Joined, Setting, Globals, Among, procedure, call_of, IsCallOf, SeenInside, IsFamily, stack_for, CallsAreDone, StatementsAreDone, AreWithoutElaboration, PartitionsAreDone}
 use Rattle.al_meaning_code.proofs.Machines.{goes_once, fails, size_cons}
 use Rattle.al_meaning_code.proofs.Expressions.{plain_some}
 use Rattle.al_meaning_code.proofs.CallSteps.{rooted_machine, roots, roots_not}
@@ -58,7 +58,7 @@ use Rattle.al_meaning_code.proofs.Declared.{declarations_do, goes_on_with}
 use Rattle.al_meaning_code.proofs.Doing.{then_runs, runs_anywhere}
 use Rattle.al_meaning_code.proofs.Machines.{size-append}
 use Rattle.al_meaning_code.proofs.Marked.{line_after, marked_back}
-use Rattle.al_meaning_code.proofs.Calls.{callee_address, finish, below_, open_, apart_, alike_, call_runs}
+use Rattle.al_meaning_code.proofs.Calls.{callee_address, finish, below_, open_, linear_, apart_, alike_, call_runs}
 
 abbrev elaboration : ℕ → ℕ → List DeclarationTree → List StatementTree → ElaborationTree
 elaboration line frame declarations_ statements = record { line = line; frame = frame; declarations = declarations_; statements = statements }
@@ -71,12 +71,13 @@ module _ (c : Setting) (us : List UnitTree) (words small : ℕ) (members : Symbo
   -- calls so many deep, from any body
   pub done_at : (n : ℕ) (symbol : Symbol) → members symbol ≡ true → (depth floor : ℕ) (F : ℕ → ℕ → Type 0) (address : ObjectPlace → ℕ)
       → (below : (p : ObjectPlace) → Joined F (Globals c) p → address p < floor) (opens : (p : ObjectPlace) → Joined F (Globals c) p → is_open c.objects c.inside 0 (address p) 1 ≡ true)
+      → (linear : (p : ObjectPlace) (k : ℕ) → Joined F (Globals c) p → Joined F (Globals c) (further p k) → address (further p k) ≡ address p + k)
       → (apart : (p q : ObjectPlace) → Joined F (Globals c) p → Joined F (Globals c) q → same_place p q ≡ false → address p ≢ address q) (alike : (p q : ObjectPlace) → Joined F (Globals c) p → Joined F (Globals c) q → same_place p q ≡ true → address p ≡ address q)
       → (nested : (d w : ℕ) → F d w → 1 ≤ d) (free : (k : ℕ) → floor ≤ k → is_open c.objects c.inside 0 k 1 ≡ true)
       → (line : UnitKey × ℕ) (st : State) (ends : Target → ℕ) (pc : ℕ) (m : Machine) → Shows c.linked depth floor (Joined F (Globals c)) address st.words m → Stands c.code c.linked ends pc (call_code depth (call_of symbol))
       → CallRuns c.objects c.inside c.code c.lines c.linked depth floor (stack_for words small n) (Joined F (Globals c)) address line (at pc m) m (pc + size (call_code depth (call_of symbol))) (suc n) (called (calls_of us n) (call_of symbol) st)
   unfolding exec operation_of plain_operation sized_operation flag_code procedure_code inside_code ending_code copied_code mark_of
-  done_at zero symbol member depth floor F address below opens apart alike nested free line st ends pc m s stands =
+  done_at zero symbol member depth floor F address below opens linear apart alike nested free line st ends pc m s stands =
       let w = s.within in
       let root = instr.Plain plains.Root in
       let some = plain_some plains.Root in
@@ -86,7 +87,7 @@ module _ (c : Setting) (us : List UnitTree) (words small : ℕ) (members : Symbo
       let step = goes_once c.objects c.inside c.code pc (pc + size_of root) kind.Root m (rooted_machine m w) stands.0 (ap on (roots m w room3)) in
       inl (1, omega arith, at (pc + size_of root) (rooted_machine m w), step))
       (cases_lt (m.first + 16384) (m.top + 3))
-  done_at (suc n) symbol member depth floor F address below opens apart alike nested free line st ends pc m s stands =
+  done_at (suc n) symbol member depth floor F address below opens linear apart alike nested free line st ends pc m s stands =
       let f = family symbol member in
       let frame = f.frame in
       let root = instr.Plain plains.Root in
@@ -121,24 +122,25 @@ module _ (c : Setting) (us : List UnitTree) (words small : ℕ) (members : Symbo
       let most = stack_for words small (suc n) in
       let fit : 3 + frame + room ≤ most = (let l = f.small in omega arith) in
       let w = s.within in
-      let below1 = below_ c.objects c.inside c.code c.lines c.linked depth floor small room frame most (Joined F (Globals c)) address (IsCallOf members) below opens apart alike nested free tell (enough n) fit m w s.above in
-      let open1 = open_ c.objects c.inside c.code c.lines c.linked depth floor small room frame most (Joined F (Globals c)) address (IsCallOf members) below opens apart alike nested free tell (enough n) fit m w s.above in
-      let apart1 = apart_ c.objects c.inside c.code c.lines c.linked depth floor small room frame most (Joined F (Globals c)) address (IsCallOf members) below opens apart alike nested free tell (enough n) fit m w s.above in
-      let alike1 = alike_ c.objects c.inside c.code c.lines c.linked depth floor small room frame most (Joined F (Globals c)) address (IsCallOf members) below opens apart alike nested free tell (enough n) fit m w s.above in
+      let below1 = below_ c.objects c.inside c.code c.lines c.linked depth floor small room frame most (Joined F (Globals c)) address (IsCallOf members) below opens linear apart alike nested free tell (enough n) fit m w s.above in
+      let open1 = open_ c.objects c.inside c.code c.lines c.linked depth floor small room frame most (Joined F (Globals c)) address (IsCallOf members) below opens linear apart alike nested free tell (enough n) fit m w s.above in
+      let linear1 = linear_ c.objects c.inside c.code c.lines c.linked depth floor small room frame most (Joined F (Globals c)) address (IsCallOf members) below opens linear apart alike nested free tell (enough n) fit m w s.above in
+      let apart1 = apart_ c.objects c.inside c.code c.lines c.linked depth floor small room frame most (Joined F (Globals c)) address (IsCallOf members) below opens linear apart alike nested free tell (enough n) fit m w s.above in
+      let alike1 = alike_ c.objects c.inside c.code c.lines c.linked depth floor small room frame most (Joined F (Globals c)) address (IsCallOf members) below opens linear apart alike nested free tell (enough n) fit m w s.above in
       let inside_calls : (line' : UnitKey × ℕ) (call : CallTree) → IsCallOf members call → (e : State) (ends' : Target → ℕ) (pc' : ℕ) (q : Machine) → Shows c.linked 1 (m.top + 3 + frame) (SeenInside (Globals c) frame) (callee_address m.top address) e.words q → Stands c.code c.linked ends' pc' (call_code 1 call)
       → CallRuns c.objects c.inside c.code c.lines c.linked 1 (m.top + 3 + frame) room (SeenInside (Globals c) frame) (callee_address m.top address) line' (at pc' q) q (pc' + size (call_code 1 call)) (suc n) (called (calls_of us n) call e) = λ line' call p e ends' pc' q shown stands'.
       subst (λ (k : CallTree). Stands c.code c.linked ends' pc' (call_code 1 k) → CallRuns c.objects c.inside c.code c.lines c.linked 1 (m.top + 3 + frame) room (SeenInside (Globals c) frame) (callee_address m.top address) line' (at pc' q) q (pc' + size (call_code 1 k)) (suc n) (called (calls_of us n) k e)) (sym p.1)
-      (λ sd. done_at n p.0 p.2 1 (m.top + 3 + frame) (λ d k. (d ≡ 1) × (3 ≤ k) × (k < 3 + frame)) (callee_address m.top address) below1 open1 apart1 alike1 (λ d k h. let i = h.0 in omega arith) (λ k h. let a = s.above in free k (omega arith)) line' e ends' pc' q shown sd) stands' in
-      let ran = call_runs c.objects c.inside c.code c.lines c.linked depth floor small room frame most (Joined F (Globals c)) address (IsCallOf members) below opens apart alike nested free tell (enough n) fit
+      (λ sd. done_at n p.0 p.2 1 (m.top + 3 + frame) (λ d k. (d ≡ 1) × (3 ≤ k) × (k < 3 + frame)) (callee_address m.top address) below1 open1 linear1 apart1 alike1 (λ d k h. let i = h.0 in omega arith) (λ k h. let a = s.above in free k (omega arith)) line' e ends' pc' q shown sd) stands' in
+      let ran = call_runs c.objects c.inside c.code c.lines c.linked depth floor small room frame most (Joined F (Globals c)) address (IsCallOf members) below opens linear apart alike nested free tell (enough n) fit
       f.unit symbol f.line f.declarations f.statements line st pc pc1 back f.place start end (end + size_of (instr.Sized sized.Return 0)) (suc n) m s stands.0 call_here stands.1.2 f.stands.0 ret_here
       (λ k. inner_ends (target.Loop k)) (inner_ends target.Routine) refl (elaborated (calls_of us n) f.unit 1 (suc n) (elaboration f.line frame f.declarations f.statements) (fresh 1 [] st))
       (λ q shown.
       subst (λ (o : Outcome Flow). Runs c.objects c.inside c.code c.lines c.linked 1 (m.top + 3 + frame) room (SeenInside (Globals c) frame) (callee_address m.top address) (λ k. inner_ends (target.Loop k)) (inner_ends target.Routine) line (at start q) q end (suc n) o)
-      (goes_on_with c.objects c.inside c.code c.linked c.lines f.unit (within_depth 1) (calls_of us n) (m.top + 3 + frame) small room (SeenInside (Globals c) frame) (callee_address m.top address) (IsCallOf members) below1 open1 apart1 alike1 tell (enough n) (declarations (calls_of us n) f.unit f.declarations (fresh 1 [] st)) (all_done (calls_of us n) f.unit 1 (suc n) (statements_of f.statements)))
-      (then_runs c.objects c.inside c.code c.linked c.lines f.unit (within_depth 1) (calls_of us n) (m.top + 3 + frame) small room (SeenInside (Globals c) frame) (callee_address m.top address) (IsCallOf members) below1 open1 apart1 alike1 tell (enough n) (λ k. inner_ends (target.Loop k)) (inner_ends target.Routine) line (at start q) q after_dc end (suc n) (next (declarations (calls_of us n) f.unit f.declarations (fresh 1 [] st)) (λ x. give On)) (all_done (calls_of us n) f.unit 1 (suc n) (statements_of f.statements))
-      (runs_anywhere c.objects c.inside c.code c.linked c.lines f.unit (within_depth 1) (calls_of us n) (m.top + 3 + frame) small room (SeenInside (Globals c) frame) (callee_address m.top address) (IsCallOf members) below1 open1 apart1 alike1 tell (enough n) (λ k. f.ends (target.Loop k)) (λ k. inner_ends (target.Loop k)) (f.ends target.Routine) (inner_ends target.Routine) line (at start q) q after_dc (suc n) (declarations (calls_of us n) f.unit f.declarations (fresh 1 [] st))
-      (declarations_do c.objects c.inside c.code c.linked c.lines f.unit (within_depth 1) (calls_of us n) (m.top + 3 + frame) small room (SeenInside (Globals c) frame) (callee_address m.top address) (IsCallOf members) below1 open1 apart1 alike1 tell (enough n) (suc n) f.declarations f.declares f.line line (fresh 1 [] st) f.ends start q shown ds d_marks))
-      (λ e p z. statements_do c.objects c.inside c.code c.linked c.lines f.unit (within_depth 1) (calls_of us n) (m.top + 3 + frame) small room (SeenInside (Globals c) frame) (callee_address m.top address) (IsCallOf members) below1 open1 apart1 alike1 tell (enough n) (suc n) inside_calls (statements_of f.statements) f.fits (line_after f.line dc) line e inner_ends after_dc p z body body_marks))) in
+      (goes_on_with c.objects c.inside c.code c.linked c.lines f.unit (within_depth 1) (calls_of us n) (m.top + 3 + frame) small room (SeenInside (Globals c) frame) (callee_address m.top address) (IsCallOf members) below1 open1 linear1 apart1 alike1 tell (enough n) (declarations (calls_of us n) f.unit f.declarations (fresh 1 [] st)) (all_done (calls_of us n) f.unit 1 (suc n) (statements_of f.statements)))
+      (then_runs c.objects c.inside c.code c.linked c.lines f.unit (within_depth 1) (calls_of us n) (m.top + 3 + frame) small room (SeenInside (Globals c) frame) (callee_address m.top address) (IsCallOf members) below1 open1 linear1 apart1 alike1 tell (enough n) (λ k. inner_ends (target.Loop k)) (inner_ends target.Routine) line (at start q) q after_dc end (suc n) (next (declarations (calls_of us n) f.unit f.declarations (fresh 1 [] st)) (λ x. give On)) (all_done (calls_of us n) f.unit 1 (suc n) (statements_of f.statements))
+      (runs_anywhere c.objects c.inside c.code c.linked c.lines f.unit (within_depth 1) (calls_of us n) (m.top + 3 + frame) small room (SeenInside (Globals c) frame) (callee_address m.top address) (IsCallOf members) below1 open1 linear1 apart1 alike1 tell (enough n) (λ k. f.ends (target.Loop k)) (λ k. inner_ends (target.Loop k)) (f.ends target.Routine) (inner_ends target.Routine) line (at start q) q after_dc (suc n) (declarations (calls_of us n) f.unit f.declarations (fresh 1 [] st))
+      (declarations_do c.objects c.inside c.code c.linked c.lines f.unit (within_depth 1) (calls_of us n) (m.top + 3 + frame) small room (SeenInside (Globals c) frame) (callee_address m.top address) (IsCallOf members) below1 open1 linear1 apart1 alike1 tell (enough n) (suc n) f.declarations f.declares f.line line (fresh 1 [] st) f.ends start q shown ds d_marks))
+      (λ e p z. statements_do c.objects c.inside c.code c.linked c.lines f.unit (within_depth 1) (calls_of us n) (m.top + 3 + frame) small room (SeenInside (Globals c) frame) (callee_address m.top address) (IsCallOf members) below1 open1 linear1 apart1 alike1 tell (enough n) (suc n) inside_calls (statements_of f.statements) f.fits (line_after f.line dc) line e inner_ends after_dc p z body body_marks))) in
       subst (λ (o : Option (UnitKey × BodyTree)). CallRuns c.objects c.inside c.code c.lines c.linked depth floor most (Joined F (Globals c)) address line (at pc m) m (pc + size (call_code depth (call_of symbol))) (suc (suc n)) (next (found_body (calls_of us n) (suc n) o [] st) (λ k. give k))) (sym f.found)
       (subst (λ (k : ℕ). CallRuns c.objects c.inside c.code c.lines c.linked depth floor most (Joined F (Globals c)) address line (at pc m) m k (suc (suc n)) (finish f.unit b st (elaborated (calls_of us n) f.unit 1 (suc n) (elaboration f.line frame f.declarations f.statements) (fresh 1 [] st)))) total ran)
 
@@ -146,11 +148,11 @@ module _ (c : Setting) (us : List UnitTree) (words small : ℕ) (members : Symbo
 
 pub calls_are_done : TreesTellCode → CallsAreDone
 calls_are_done tell c laid us words room members family n symbol member line st ends pc m shows stands =
-    done_at c us words room members tell family n symbol member c.depth c.floor (λ d w. c.is_local d w ≡ true) c.address laid.below laid.opens laid.apart laid.alike laid.nested laid.free line st ends pc m shows stands
+    done_at c us words room members tell family n symbol member c.depth c.floor (λ d w. c.is_local d w ≡ true) c.address laid.below laid.opens laid.linear laid.apart laid.alike laid.nested laid.free line st ends pc m shows stands
 
 pub statements_are_done : TreesTellCode → StatementsAreDone
 statements_are_done tell c laid us words room members family n unit unlocks before line ss st ends pc m is shows stands marks =
-    statements_do c.objects c.inside c.code c.linked c.lines unit (record { depth = c.depth; unlocks = unlocks }) (calls_of us n) c.floor room (stack_for words room n) (Among c) c.address (IsCallOf members) laid.below laid.opens laid.apart laid.alike tell (enough c us words room members tell family n) (suc n)
+    statements_do c.objects c.inside c.code c.linked c.lines unit (record { depth = c.depth; unlocks = unlocks }) (calls_of us n) c.floor room (stack_for words room n) (Among c) c.address (IsCallOf members) laid.below laid.opens laid.linear laid.apart laid.alike tell (enough c us words room members tell family n) (suc n)
     (λ line' call p e ends' pc' q shown stands'.
     subst (λ (k : CallTree). Stands c.code c.linked ends' pc' (call_code c.depth k) → CallRuns c.objects c.inside c.code c.lines c.linked c.depth c.floor (stack_for words room n) (Among c) c.address line' (at pc' q) q (pc' + size (call_code c.depth k)) (suc n) (called (calls_of us n) k e)) (sym p.1)
     (λ sd. calls_are_done tell c laid us words room members family n p.0 p.2 line' e ends' pc' q shown sd) stands')

@@ -1,5 +1,5 @@
 -- The law of values.
-use Rattle.std.proofs.Common.{◌≡◌, ℕ, ◌+◌, ℤ, List, [], ◌∷◌, Option, Some, None, Result, Ok, Err, refl, sym, ap, subst, inl, inr, ◌⊎◌, arith}
+use Rattle.std.proofs.Common.{ℕ, ◌+◌, Ok, Err, refl, sym, subst, inl, inr}
 use Rattle.al_base.specs.declared.unit_key.UnitKey.{UnitKey}
 use Rattle.al_code.specs.Pieces.{line_word, size}
 use Rattle.al_code.specs.Templates.{value_of}
@@ -9,11 +9,10 @@ use Rattle.al_machine.specs.declared.instruction.Exception.{Exception}
 use Rattle.al_machine.specs.declared.instruction.Exception.TheVariants as exception
 use Rattle.al_meaning.specs.Scalars.{Valued, ConstraintError, ProgramError, Meaningless}
 use Rattle.al_meaning.specs.States.{State, Outcome, Words}
-use Rattle.al_meaning.specs.Expressions.{value}
 use Rattle.al_meaning_code.specs.Running.{at, Traps, TrapsAt, Exhausts}
 use Rattle.al_meaning_code.specs.Standing.{AreOfLine}
 use Rattle.al_meaning_code.specs.Effects.{Evaluates}
-use Rattle.al_meaning_code.specs.Laws.{Setting, Among, IsLaidOut, ValuesAreGiven}
+use Rattle.al_meaning_code.specs.Laws.{Setting, Among, ValuesAreGiven}
 use Rattle.al_meaning_code.specs.Subset.{needs}
 use Rattle.al_meaning_code.proofs.Expressions.{Short, Ends}
 use Rattle.al_meaning_code.proofs.Marked.{one_line}
@@ -42,6 +41,6 @@ pub values_are_given : ValuesAreGiven
 values_are_given c laid calls unit line t st ends pc m is shows stands marks =
     let to = pc + size (value_of c.depth t) in
     let of_line = one_line c.lines unit line pc (value_of c.depth t) (value_unmarked (Among c) c.depth t is) marks in
-    let ends_ = value_gives c.objects c.inside c.code c.linked c.depth c.floor (Among c) c.address laid.below laid.opens st.words t is ends pc m shows stands in
+    let ends_ = value_gives c.objects c.inside c.code c.linked c.depth c.floor (Among c) c.address laid.below laid.opens laid.linear st.words t is ends pc m shows stands in
     subst (λ (o : Outcome Words). Evaluates c.objects c.inside c.code c.lines (unit, line) (at pc m) m to (needs t) st o) (sym (value_meant calls (Among c) st t is))
     (evaluates c unit line (at pc m) m pc to (needs t) st of_line (plain.value st.words t) ends_)

@@ -1,12 +1,11 @@
 -- Pieces of an object stand in the code of an image.
-use Rattle.std.proofs.Common.{◌≡◌, ℕ, zero, suc, ◌+◌, ◌<◌, ◌≤◌, List, [], ◌∷◌, ◌++◌, true, false, ◌==◌, Option, Some, None, length, refl, sym, ◌∙◌, ap, subst, arith, length-append, append_assoc}
+use Rattle.std.proofs.Common.{◌≡◌, ℕ, ◌+◌, ◌<◌, List, [], ◌∷◌, ◌++◌, true, false, ◌==◌, Some, length, refl, sym, ◌∙◌, ap, subst, arith, length-append, append_assoc}
 use Rattle.std.proofs.lemmas.Bool.Decides.{nat_tests}
-use Rattle.std.specs.Prelude.{⊤}
 use Rattle.al_instr.specs.declared.instruction.Instr.{Instr}
 use Rattle.al_instr.specs.declared.instruction.Instr.TheVariants as instr
 use Rattle.al_instr.specs.Codes.{encoded, size_of, code_bytes}
 use Rattle.al_code.specs.declared.piece.Target.{Target}
-use Rattle.al_code.specs.Pieces.{Piece, Whole, Using, Leaving, Begins, Line, size}
+use Rattle.al_code.specs.Pieces.{Piece, Whole, Using, Leaving, Begins, Line}
 use Rattle.al_view.specs.declared.link.LinkSymbol.{LinkSymbol}
 use Rattle.al_machine.specs.Operations.{operation_of}
 use Rattle.al_machine.specs.Code.{fetch, steps_from}

@@ -19,3 +19,4 @@ mod Given
 mod Calls
 mod Families
 mod Premises
+mod Converse

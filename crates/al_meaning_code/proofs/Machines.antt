@@ -1,46 +1,29 @@
 -- The machine in a few steps: pieces of code that stand in a program, and what single instructions do.
-use Rattle.std.proofs.Common.{◌≡◌, ◌≢◌, ℕ, zero, suc, ◌+◌, ◌-◌, ◌<◌, ◌≤◌, ◌%◌, ℤ, List, [], ◌∷◌, ◌++◌, Bool, true, false, cond, ◌&&◌, ◌==◌, Option, Some, None, Result, Ok, Err, length, get_or, set, nat_le, refl, sym, ◌∙◌, ap, subst, arith, inl, inr, ◌⊎◌, length-set, length-append, get_or-set_same, get_or-set_other}
-use Rattle.std.proofs.lemmas.List.{set-set}
+use Rattle.std.proofs.Common.{◌≡◌, ℕ, zero, suc, ◌+◌, ◌-◌, ◌<◌, ◌≤◌, ℤ, List, [], ◌∷◌, ◌++◌, true, Option, Some, None, Result, Ok, Err, length, refl, ◌∙◌, ap, arith, length-append}
 use Rattle.std.proofs.lemmas.Bool.Decides.{nat_tests}
-use Rattle.std.specs.Prelude.{pos, negsuc, ⊤, neg_ℤ, ◌^◌, option_and_then, slice_get, ◌+ℤ◌, int_le, if◌then◌else◌}
-use Rattle.std.specs.Ordering.{int_eq}
-use Rattle.al_view.specs.declared.link.LinkKind.TheVariants as links
-use Rattle.al_view.specs.declared.view.ObjectPlace.{ObjectPlace}
-use Rattle.al_view.specs.declared.view.ObjectPlace.TheVariants as places
-use Rattle.al_view.specs.ViewUses.{link}
-use Rattle.al_instr.specs.declared.instruction.Instr.{Instr}
-use Rattle.al_instr.specs.declared.instruction.Instr.TheVariants as instr
-use Rattle.al_instr.specs.declared.numbers.Plain.{Plain as PlainOne}
-use Rattle.al_instr.specs.declared.numbers.Plain.TheVariants as plain
-use Rattle.al_instr.specs.declared.numbers.Sized.TheVariants as sized
+use Rattle.std.specs.Prelude.{pos, option_and_then, ◌+ℤ◌}
 use Rattle.al_instr.specs.Codes.{encoded, size_of, jump_bytes}
 use Rattle.al_code.specs.declared.piece.JumpCondition.{JumpCondition}
 use Rattle.al_code.specs.declared.piece.JumpCondition.TheVariants as when
-use Rattle.al_code.specs.declared.piece.Target.{Target}
-use Rattle.al_code.specs.declared.piece.Construct.{Construct}
-use Rattle.al_code.specs.Targets.{outside}
-use Rattle.al_code.specs.Pieces.{Piece, Whole, Using, Leaving, Begins, Line, jump_of, piece_bytes, piece_size, bytes_of, size, over_or, back, closed, repeated}
+use Rattle.al_code.specs.Pieces.{Piece, jump_of, piece_bytes, piece_size, bytes_of, size}
 use Rattle.al_link_image.specs.declared.parts.Region.{Region}
 use Rattle.al_machine.specs.declared.regions.Entered.{Entered}
 use Rattle.al_machine.specs.declared.code.Step.{Step}
 use Rattle.al_machine.specs.declared.instruction.Exception.{Exception}
-use Rattle.al_machine.specs.declared.instruction.Exception.TheVariants as exception
 use Rattle.al_machine.specs.declared.instruction.Flow.{Flow}
-use Rattle.al_machine.specs.declared.instruction.Flow.TheVariants.{On, To}
+use Rattle.al_machine.specs.declared.instruction.Flow.TheVariants.{On}
 use Rattle.al_machine.specs.declared.instruction.Trap.{Trap}
-use Rattle.al_machine.specs.declared.instruction.Trap.TheVariants.{Raised, Stuck}
+use Rattle.al_machine.specs.declared.instruction.Trap.TheVariants.{Raised}
 use Rattle.al_machine.specs.declared.instruction.Instruction.{Instruction}
 use Rattle.al_machine.specs.declared.instruction.Instruction.TheVariants as kind
 use Rattle.al_machine.specs.declared.operation.Operation.{Operation}
 use Rattle.al_machine.specs.declared.operation.Operation.TheVariants as operation
-use Rattle.al_machine.specs.Operations.{operation_of, plain_operation, sized_operation}
 use Rattle.al_machine.specs.Code.{fetch}
-use Rattle.al_machine.specs.Machine.{Machine, IsWithin}
-use Rattle.al_machine.specs.Stack.{word_at, holds, has_room, put, put_result, pushed, checked, binary, unary}
-use Rattle.al_machine.specs.Memory.{is_open, copied, reached, load_from, loaded, store_to, stored}
+use Rattle.al_machine.specs.Machine.{Machine}
+use Rattle.al_machine.specs.Stack.{word_at, holds}
 use Rattle.al_machine.specs.Bursts.{At, landing, landed, advanced_by, advanced, carried}
-use Rattle.al_machine.specs.Frames.{followed, own_place, framed, push_address, jumped, jumped_if_zero, jump_to}
-use Rattle.al_machine.specs.Table.{on, exec}
+use Rattle.al_machine.specs.Frames.{jumped, jumped_if_zero, jump_to}
+use Rattle.al_machine.specs.Table.{exec}
 use Rattle.al_meaning_code.specs.Running.{at, IsThere, Leads, Traps}
 
 pub jump_length : (z : ℤ) → length (jump_bytes z) ≡ 4

@@ -1,14 +1,12 @@
 -- The lines of parts of pieces.
-use Rattle.std.proofs.Common.{◌≡◌, ℕ, ◌+◌, ◌<◌, ◌≤◌, List, [], ◌∷◌, ◌++◌, Option, Some, None, refl, sym, ◌∙◌, ap, subst, arith, ⊎_elim}
+use Rattle.std.proofs.Common.{◌≡◌, ℕ, ◌+◌, ◌<◌, ◌≤◌, List, [], ◌∷◌, ◌++◌, Option, Some, None, refl, sym, ◌∙◌, subst, arith, ⊎_elim}
 use Rattle.std.proofs.lemmas.Bool.{cases_lt}
 use Rattle.std.specs.Prelude.{⊤, pos}
 use Rattle.al_base.specs.declared.unit_key.UnitKey.{UnitKey}
-use Rattle.al_instr.specs.Codes.{size_of}
 use Rattle.al_code.specs.declared.piece.Construct.{Construct}
-use Rattle.al_code.specs.declared.piece.JumpCondition.{JumpCondition}
 use Rattle.al_code.specs.declared.piece.Target.{Target}
 use Rattle.al_code.specs.Targets.{outside}
-use Rattle.al_code.specs.Pieces.{Piece, Whole, Using, Leaving, Begins, Line, jump_of, piece_size, size, closed, over_or, line_word}
+use Rattle.al_code.specs.Pieces.{Piece, Whole, Using, Leaving, Begins, Line, jump_of, piece_size, size, closed, over_or}
 use Rattle.al_meaning_code.specs.Running.{Lines}
 use Rattle.al_meaning_code.specs.Standing.{AreOfLine, AreMarked}
 use Rattle.al_meaning_code.proofs.Machines.{jump_size, size_cons}

@@ -1,6 +1,6 @@
 -- The meaning of an expression of the subset is what it gives by what the variables hold, and it leaves the state as it is.
-use Rattle.std.proofs.Common.{◌≡◌, ◌==◌, ℕ, ℤ, List, [], ◌∷◌, Bool, true, false, Option, Some, None, Result, Ok, Err, length, refl, ◌∙◌, ap}
-use Rattle.std.specs.Prelude.{pos, if◌then◌else◌}
+use Rattle.std.proofs.Common.{◌≡◌, ◌==◌, ℕ, ℤ, [], ◌∷◌, Bool, true, false, Option, Some, None, Ok, Err, length, refl, ◌∙◌, ap}
+use Rattle.std.specs.Prelude.{pos, int_le, ◌&&◌, if◌then◌else◌}
 use Rattle.al_view.specs.declared.types.Bounds.{Bounds}
 use Rattle.al_view.specs.declared.types.StaticValue.{StaticValue}
 use Rattle.al_view.specs.declared.view.ObjectPlace.{ObjectPlace}
@@ -14,14 +14,14 @@ use Rattle.al_view_typed.specs.ExpressionTrees.TypedTree.{Labelled}
 use Rattle.al_view_typed.specs.ExpressionTrees.FormTree.{LiteralForm, NamedForm, UnaryForm, BinaryForm, ShortCircuitForm, MembershipForm, ConvertedForm, AggregateForm, OthersForm, CallForm, ClockForm}
 use Rattle.al_view_typed.specs.ExpressionTrees.NameTree.{ObjectName, ComponentName, IndexedName}
 use Rattle.al_view_typed.specs.ExpressionTrees.ValueTree.{Checked}
-use Rattle.al_meaning.specs.Scalars.{Valued, Meaningless, truth_of, with_truth, within, applied, applied_to, stepped}
-use Rattle.al_meaning.specs.States.{State, Outcome, Gives, Raises, GoesOn, Act, next, ◌>>=◌, give, Words, one, of_value, of_truth, truth_in, scalar, fetched, words_at, checked}
-use Rattle.al_meaning.specs.Expressions.{Calls, value, form_value, named, checked_value, converted, static_or, operated, decided, stepped_words}
+use Rattle.al_meaning.specs.Scalars.{ConstraintError, Valued, truth_of, with_truth, within, applied, applied_to, stepped}
+use Rattle.al_meaning.specs.States.{State, Outcome, Gives, Raises, Act, next, ◌>>=◌, give, Words, one, of_value, of_truth, truth_in, scalar, further, fetched, checked, raise}
+use Rattle.al_meaning.specs.Expressions.{Calls, value, form_value, named, checked_value, converted, static_or, operated, decided, stepped_words, component}
 use Rattle.al_base.specs.declared.unit_key.UnitKey.{UnitKey}
 use Rattle.al_meaning.specs.Statements.{number, condition}
-use Rattle.al_meaning_code.specs.Subset.{IsScalar, IsVariable, OrStatic, IsIn, IsInForm, IsInValue}
+use Rattle.al_meaning_code.specs.Subset.{IsScalar, IsName, OrStatic, IsIn, IsInForm, IsInValue}
 use Rattle.al_meaning_code.proofs.Plain as plain
-use Rattle.al_meaning_code.proofs.Plain.{then_value, or_static, decided as plain_decided}
+use Rattle.al_meaning_code.proofs.Plain.{Placed, then_place, in_array, element, indexed, word_in, then_value, or_static, decided as plain_decided}
 
 -- a value or a failure, in a state that stays
 abbrev pub outcome : State → Valued → Outcome Words
@@ -83,15 +83,35 @@ step_meant st c b v = go (stepped c v)
     go (Ok w) = checked_meant st b w
     go (Err f) = refl
 
+-- a place or a failure
+abbrev pub placing : State → Placed → Outcome ObjectPlace
+placing st (Ok p) = Gives p st
+placing st (Err f) = Raises f None st
+
+in_meant : (st : State) (c : Bool) (q : ObjectPlace) → (if c then give q else raise ConstraintError) st ≡ placing st (in_array c q)
+in_meant st true q = refl
+in_meant st false q = refl
+
+index_meant : (st : State) (p : ObjectPlace) (b : Bounds) (words : ℕ) (o : Valued) → next (outcome st o) (λ is. scalar is >>= (λ i. component p b words i)) ≡ placing st (indexed b words p o)
+index_meant st p b words (Ok i) = in_meant st (int_le b.low i && int_le i b.high) (element b words p i)
+index_meant st p b words (Err f) = refl
+
+word_meant : (st : State) (o : Placed) → next (placing st o) (λ place. fetched place 1) ≡ outcome st (word_in st.words o)
+word_meant st (Ok p) = refl
+word_meant st (Err f) = refl
+
+field_meant : (st : State) (offset : ℕ) (o : Placed) → next (placing st o) (λ place. give (further place offset)) ≡ placing st (then_place o (λ q. Ok (further q offset)))
+field_meant st offset (Ok q) = refl
+field_meant st offset (Err f) = refl
+
+array_meant : (st : State) (b : Bounds) (words : ℕ) (act : Act Words) (v : Valued) → act st ≡ outcome st v → (o : Placed) → next (placing st o) (λ place. act >>= (λ is. scalar is >>= (λ i. component place b words i))) ≡ placing st (then_place o (λ q. indexed b words q v))
+array_meant st b words act v e (Ok q) = ap (λ (r : Outcome Words). next r (λ is. scalar is >>= (λ i. component q b words i))) e ∙ index_meant st q b words v
+array_meant st b words act v e (Err f) = refl
+
 module _ (calls : Calls) (V : ObjectPlace → Type 0) where
   static_meant : (st : State) (v : Option StaticValue) (act : Act Words) (o : Valued) (P : Type 0) → OrStatic v P → (P → act st ≡ outcome st o) → static_or v act st ≡ outcome st (or_static v o)
   static_meant st (Some v) act o P h g = refl
   static_meant st None act o P h g = g h
-
-  name_meant : (st : State) (name : NameTree) (w : ℕ) → IsVariable V name → w ≡ 1 → form_value calls w (NamedForm name) st ≡ outcome st (plain.named st.words name)
-  name_meant st (ObjectName p is_constant) w h one_ = rw one_ refl
-  name_meant st (ComponentName whole offset) w h one_ = absurd h
-  name_meant st (IndexedName array index bounds words) w h one_ = absurd h
 
   mutual
     pub value_meant : (st : State) (t : TypedTree) → IsIn V t → value calls t st ≡ outcome st (plain.value st.words t)
@@ -99,7 +119,9 @@ module _ (calls : Calls) (V : ObjectPlace → Type 0) where
 
     form_meant : (st : State) (w : ℕ) (form : FormTree) → IsInForm V w form → form_value calls w form st ≡ outcome st (plain.value_of_form st.words form)
     form_meant st w (LiteralForm v) h = refl
-    form_meant st w (NamedForm name) h = name_meant st name w h.0 h.1
+    form_meant st w (NamedForm name) h =
+        ap (λ (o : Outcome ObjectPlace). next o (λ place. fetched place w)) (named_meant st name h.0)
+        ∙ ap (λ (k : ℕ). next (placing st (plain.placed st.words name)) (λ place. fetched place k)) h.1 ∙ word_meant st (plain.placed st.words name)
     form_meant st w (UnaryForm operator x) h =
         let k : Words → Act Words = λ vs. scalar vs >>= (λ v. one (of_value (applied_to operator v))) in
         ap (λ (r : Outcome Words). next r k) (value_meant st x h) ∙ then_meant st (plain.value st.words x) k (λ v. applied_to operator v) (λ v. one_meant st (applied_to operator v))
@@ -119,6 +141,13 @@ module _ (calls : Calls) (V : ObjectPlace → Type 0) where
     form_meant st w (OthersForm count x) h = absurd h
     form_meant st w (CallForm call) h = absurd h
     form_meant st w ClockForm h = absurd h
+
+    pub named_meant : (st : State) (name : NameTree) → IsName V name → named calls name st ≡ placing st (plain.placed st.words name)
+    named_meant st (ObjectName p is_constant) h = refl
+    named_meant st (ComponentName whole offset) h = ap (λ (o : Outcome ObjectPlace). next o (λ place. give (further place offset))) (named_meant st whole h.0) ∙ field_meant st offset (plain.placed st.words whole)
+    named_meant st (IndexedName array index b words) h =
+        ap (λ (o : Outcome ObjectPlace). next o (λ place. value calls index >>= (λ is. scalar is >>= (λ i. component place b words i)))) (named_meant st array h.0)
+        ∙ array_meant st b words (value calls index) (plain.value st.words index) (value_meant st index h.1) (plain.placed st.words array)
 
     converted_meant : (st : State) (c : Conversion) (x : ValueTree) → IsInValue V x → converted calls (λ v. stepped c v) x st ≡ outcome st (plain.converted st.words c x)
     converted_meant st c (Checked x bounds) h =

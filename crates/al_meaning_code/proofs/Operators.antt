@@ -1,8 +1,8 @@
 -- The operators of the machine give what those of the language do.
-use Rattle.std.proofs.Common.{◌≡◌, ℕ, ◌+◌, ◌<◌, ◌≤◌, ℤ, Bool, true, false, cond, not, ◌&&◌, ◌||◌, List, [], ◌∷◌, Option, Some, None, Result, Ok, Err, nat_lt, refl, sym, ◌∙◌, ap, subst, arith, inl, inr, ◌⊎◌}
+use Rattle.std.proofs.Common.{◌≡◌, ℕ, ℤ, Bool, true, false, not, ◌&&◌, ◌||◌, [], ◌∷◌, Option, Some, None, Result, Ok, Err, refl, sym, ◌∙◌, ap, arith, inl, inr, ◌⊎◌}
 use Rattle.std.proofs.lemmas.Bool.Decides.{nat_tests, Decides-int_eq}
 use Rattle.std.proofs.lemmas.Int.{ints}
-use Rattle.std.specs.Prelude.{⊤, pos, negsuc, neg_ℤ, unsigned_abs, ◌+ℤ◌, ◌-ℤ◌, ◌*ℤ◌, int_lt, int_le, int_div, int_rem, if◌then◌else◌}
+use Rattle.std.specs.Prelude.{pos, negsuc, neg_ℤ, unsigned_abs, ◌+ℤ◌, ◌-ℤ◌, ◌*ℤ◌, int_lt, int_le, int_div, int_rem, if◌then◌else◌}
 use Rattle.std.specs.Ordering.{int_eq}
 use Rattle.std.specs.Int.{int_pow}
 use Rattle.al_view_typed.specs.declared.label.BinaryOperator.{BinaryOperator}
@@ -12,8 +12,7 @@ use Rattle.al_view_typed.specs.declared.label.UnaryOperator.TheVariants as unary
 use Rattle.al_instr.specs.declared.instruction.Instr.TheVariants as instr
 use Rattle.al_instr.specs.declared.numbers.Plain.{Plain as PlainOne}
 use Rattle.al_instr.specs.declared.numbers.Plain.TheVariants as plain
-use Rattle.al_code.specs.Pieces.{Piece, Whole}
-use Rattle.al_code.specs.ExprPieces.{one}
+use Rattle.al_code.specs.Pieces.{Whole}
 use Rattle.al_code.specs.Templates.{binary_code}
 use Rattle.al_machine.specs.declared.instruction.BinaryOperator.{BinaryOperator as MachineOperator}
 use Rattle.al_machine.specs.declared.instruction.BinaryOperator.TheVariants as machine
@@ -22,14 +21,13 @@ use Rattle.al_machine.specs.declared.instruction.UnaryOperator.TheVariants as ma
 use Rattle.al_machine.specs.declared.instruction.Exception.TheVariants as exception
 use Rattle.al_machine.specs.declared.instruction.Instruction.TheVariants as kind
 use Rattle.al_machine.specs.declared.instruction.Trap.{Trap}
-use Rattle.al_machine.specs.declared.instruction.Trap.TheVariants.{Raised, Stuck}
-use Rattle.al_machine.specs.declared.operation.Operation.{Operation}
+use Rattle.al_machine.specs.declared.instruction.Trap.TheVariants.{Raised}
 use Rattle.al_machine.specs.declared.operation.Operation.TheVariants as operation
 use Rattle.al_machine.specs.Operations.{operation_of, plain_operation}
 use Rattle.al_machine.specs.Words.{is_word, word_of, bit}
-use Rattle.al_machine.specs.Arithmetic.{are_opposite, int_mod, by_divisor, power, is_bit, logical, differ, both, either, operated, complement, changed}
+use Rattle.al_machine.specs.Arithmetic.{int_mod, by_divisor, power, logical, differ, both, either, operated, complement, changed}
 use Rattle.al_meaning_code.specs.Subset.{IsScalar}
-use Rattle.al_meaning.specs.Scalars.{Failure, ConstraintError, ProgramError, Meaningless, Valued, is_number, number_of, truth, truth_of, with_truth, by, modulo, raised_to, logic, xor_of, applied, applied_to}
+use Rattle.al_meaning.specs.Scalars.{ConstraintError, Meaningless, is_number, number_of, truth, truth_of, with_truth, by, raised_to, logic, xor_of, applied, applied_to}
 use Rattle.al_meaning_code.specs.Laws.{Agree}
 
 same_range : (z : ℤ) → is_number z ≡ is_word z

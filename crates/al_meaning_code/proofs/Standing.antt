@@ -1,23 +1,18 @@
 -- Pieces of code that stand in a program at a place.
-use Rattle.std.proofs.Common.{◌≡◌, ℕ, zero, suc, ◌+◌, ◌-◌, ◌<◌, ◌≤◌, ℤ, List, [], ◌∷◌, ◌++◌, Option, Some, None, length, refl, sym, ◌∙◌, ap, subst, arith, append-nil}
-use Rattle.std.specs.Prelude.{pos, ⊤, neg_ℤ, ◌+ℤ◌}
+use Rattle.std.proofs.Common.{◌≡◌, ℕ, ◌+◌, ℤ, List, [], ◌∷◌, ◌++◌, Option, Some, None, refl, sym, ◌∙◌, ap, subst, arith, append-nil}
+use Rattle.std.specs.Prelude.{pos, ◌+ℤ◌}
 use Rattle.std.specs.Option.{option_map_or}
 use Rattle.std.proofs.lemmas.Int.{ints}
 use Rattle.al_instr.specs.declared.instruction.Instr.{Instr}
-use Rattle.al_instr.specs.declared.instruction.Instr.TheVariants as instr
 use Rattle.al_instr.specs.Codes.{size_of}
-use Rattle.al_code.specs.declared.piece.JumpCondition.{JumpCondition}
-use Rattle.al_code.specs.declared.piece.JumpCondition.TheVariants as when
 use Rattle.al_code.specs.declared.piece.Target.{Target}
 use Rattle.al_code.specs.declared.piece.Construct.{Construct}
 use Rattle.al_code.specs.Targets.{outside}
-use Rattle.al_code.specs.Pieces.{Piece, Whole, Using, Leaving, Begins, Line, jump_of, piece_size, size, over_or, back, closed, repeated}
+use Rattle.al_code.specs.Pieces.{Piece, Whole, Using, Leaving, Begins, Line, jump_of, piece_size, size, over_or, closed}
 use Rattle.al_view.specs.declared.link.LinkSymbol.{LinkSymbol}
 use Rattle.al_machine.specs.declared.code.Step.{Step}
-use Rattle.al_machine.specs.declared.operation.Operation.{Operation}
 use Rattle.al_machine.specs.Operations.{operation_of}
-use Rattle.al_machine.specs.Code.{fetch}
-use Rattle.al_meaning_code.proofs.Machines.{jump_size, size_cons, size-append}
+use Rattle.al_meaning_code.proofs.Machines.{jump_size, size_cons}
 use Rattle.al_meaning_code.specs.Running.{IsThere}
 -- the code, and what linking makes of an instruction that uses a symbol
 use Rattle.al_meaning_code.specs.Standing.{Here, Stands}

@@ -1,6 +1,6 @@
 -- No mark of a line is in the code of a value.
-use Rattle.std.proofs.Common.{ℕ, ◌+◌, List, [], ◌∷◌, ◌++◌, Option, Some, None}
-use Rattle.std.specs.Prelude.{pos, ⊤}
+use Rattle.std.proofs.Common.{ℕ, List, ◌++◌, Option, Some, None}
+use Rattle.std.specs.Prelude.{pos}
 use Rattle.al_view.specs.declared.link.LinkKind.TheVariants as links
 use Rattle.al_view.specs.declared.types.Bounds.{Bounds}
 use Rattle.al_view.specs.declared.types.StaticValue.{StaticValue}
@@ -22,11 +22,10 @@ use Rattle.al_view_typed.specs.ExpressionTrees.ValueTree.{Checked}
 use Rattle.al_instr.specs.declared.numbers.Sized.TheVariants as sized
 use Rattle.al_code.specs.Pieces.{Piece}
 use Rattle.al_code.specs.ExprPieces.{of_size, number, check_code, place_code}
-use Rattle.al_code.specs.Templates.{value_of, form_code, address_of, checked_code, converted_code, unary_code, binary_code, step_code, short_code, static_or, words_of}
+use Rattle.al_code.specs.Templates.{index_code, value_of, form_code, address_of, checked_code, converted_code, unary_code, binary_code, step_code, short_code, static_or, words_of}
 use Rattle.al_code.specs.declared.piece.Construct.TheVariants as construct
-use Rattle.al_code.specs.Pieces.{closed}
 use Rattle.al_code.specs.ExprPieces.{guarded, unless_zero, join}
-use Rattle.al_meaning_code.specs.Subset.{IsVariable, OrStatic, IsIn, IsInForm, IsInValue}
+use Rattle.al_meaning_code.specs.Subset.{IsName, OrStatic, IsIn, IsInForm, IsInValue}
 use Rattle.al_meaning_code.proofs.Marked.{HasNoMark, no_mark-append, no_mark-closed}
 
 module _ (V : ObjectPlace → Type 0) (depth : ℕ) where
@@ -66,18 +65,13 @@ module _ (V : ObjectPlace → Type 0) (depth : ℕ) where
   static_unmarked (Some v) c P h g = tt
   static_unmarked None c P h g = g h
 
-  name_unmarked : (name : NameTree) (w : ℕ) → IsVariable V name → HasNoMark (address_of depth name ++ of_size sized.Load w)
-  name_unmarked (ObjectName p is_constant) w h = no_mark-append (place_code links.Data depth p) (of_size sized.Load w) (place_unmarked p) tt
-  name_unmarked (ComponentName whole_ offset) w h = absurd h
-  name_unmarked (IndexedName array index bounds words) w h = absurd h
-
   mutual
     pub value_unmarked : (t : TypedTree) → IsIn V t → HasNoMark (value_of depth t)
     value_unmarked (Labelled labels form) h = static_unmarked labels.value (form_code depth labels.words form) (IsInForm V labels.words form) h (λ k. form_unmarked labels.words form k)
 
     form_unmarked : (w : ℕ) (form : FormTree) → IsInForm V w form → HasNoMark (form_code depth w form)
     form_unmarked w (LiteralForm v) h = tt
-    form_unmarked w (NamedForm name) h = name_unmarked name w h.0
+    form_unmarked w (NamedForm name) h = no_mark-append (address_of depth name) (of_size sized.Load w) (address_unmarked name h.0) tt
     form_unmarked w (UnaryForm operator x) h = no_mark-append (value_of depth x) (unary_code operator) (value_unmarked x h) (unary_unmarked operator)
     form_unmarked w (BinaryForm operator x y) h = no_mark-append (value_of depth x ++ value_of depth y) (binary_code operator (words_of x)) (no_mark-append (value_of depth x) (value_of depth y) (value_unmarked x h.1) (value_unmarked y h.2)) (binary_unmarked operator (words_of x))
     form_unmarked w (ShortCircuitForm operator x y) h = no_mark-append (value_of depth x) (short_code operator (value_of depth y)) (value_unmarked x h.0) (short_unmarked operator (value_of depth y) (value_unmarked y h.1))
@@ -87,6 +81,11 @@ module _ (V : ObjectPlace → Type 0) (depth : ℕ) where
     form_unmarked w (OthersForm count x) h = absurd h
     form_unmarked w (CallForm call) h = absurd h
     form_unmarked w ClockForm h = absurd h
+
+    pub address_unmarked : (name : NameTree) → IsName V name → HasNoMark (address_of depth name)
+    address_unmarked (ObjectName p is_constant) h = place_unmarked p
+    address_unmarked (ComponentName whole_ offset) h = no_mark-append (address_of depth whole_) (of_size sized.Field offset) (address_unmarked whole_ h.0) tt
+    address_unmarked (IndexedName array index b words) h = no_mark-append (address_of depth array ++ value_of depth index) (index_code b words) (no_mark-append (address_of depth array) (value_of depth index) (address_unmarked array h.0) (value_unmarked index h.1)) tt
 
     converted_unmarked : (c : Conversion) (x : ValueTree) → IsInValue V x → HasNoMark (converted_code depth c x)
     converted_unmarked c (Checked x bounds) h = no_mark-append (value_of depth x ++ step_code c) (check_code bounds) (no_mark-append (value_of depth x) (step_code c) (value_unmarked x h) (step_unmarked c)) (check_unmarked bounds)

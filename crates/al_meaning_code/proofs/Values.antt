@@ -1,8 +1,8 @@
 -- The values of scalar expressions over the variables of a program.
-use Rattle.std.proofs.Common.{◌≡◌, ◌≢◌, ℕ, zero, suc, ◌+◌, ◌-◌, ◌<◌, ◌≤◌, max, ℤ, List, [], ◌∷◌, ◌++◌, Bool, true, false, cond, ◌&&◌, Option, Some, None, Result, Ok, Err, length, refl, sym, ◌∙◌, ap, subst, arith, inl, inr, ◌⊎◌, ⊎_elim, append_assoc}
-use Rattle.std.proofs.lemmas.Bool.{cases_lt}
+use Rattle.std.proofs.Common.{◌≡◌, ◌≢◌, ℕ, zero, suc, ◌+◌, ◌-◌, ◌<◌, ◌≤◌, max, ℤ, List, [], ◌∷◌, ◌++◌, Bool, true, false, ◌&&◌, Option, Some, None, Ok, Err, length, refl, sym, ◌∙◌, ap, subst, arith, inl, inr, ◌⊎◌, append_assoc}
 use Rattle.std.proofs.lemmas.Bool.Decides.{nat_tests}
-use Rattle.std.specs.Prelude.{⊤, pos, negsuc, option_and_then, ◌+ℤ◌, int_le, if◌then◌else◌}
+use Rattle.std.proofs.lemmas.Int.{ints}
+use Rattle.std.specs.Prelude.{pos, negsuc, option_and_then, ◌+ℤ◌, int_le, if◌then◌else◌, ◌-ℤ◌, ◌*ℤ◌, ◌*◌, unsigned_abs, nat_lt}
 use Rattle.al_view.specs.ViewUses.{link}
 use Rattle.al_view.specs.declared.link.LinkKind.TheVariants as links
 use Rattle.al_view.specs.declared.link.LinkSymbol.{LinkSymbol}
@@ -14,8 +14,6 @@ use Rattle.al_view_typed.specs.declared.label.BinaryOperator.{BinaryOperator}
 use Rattle.al_view_typed.specs.declared.label.BinaryOperator.TheVariants as source
 use Rattle.al_view_typed.specs.declared.label.Conversion.{Conversion}
 use Rattle.al_view_typed.specs.declared.label.Conversion.TheVariants as conversions
-use Rattle.al_view_typed.specs.declared.label.UnaryOperator.{UnaryOperator}
-use Rattle.al_view_typed.specs.declared.label.UnaryOperator.TheVariants as unary
 use Rattle.al_view_typed.specs.declared.label.ShortCircuit.{ShortCircuit}
 use Rattle.al_view_typed.specs.declared.label.ShortCircuit.TheVariants as short
 use Rattle.al_view_typed.specs.ExpressionTrees.{TypedTree, FormTree, NameTree, ValueTree}
@@ -33,51 +31,44 @@ use Rattle.al_code.specs.declared.piece.JumpCondition.TheVariants as when
 use Rattle.al_code.specs.declared.piece.Target.{Target}
 use Rattle.al_code.specs.Pieces.{Piece, Whole, Using, size}
 use Rattle.al_code.specs.ExprPieces.{one, of_size, number, check_code, place_code}
-use Rattle.al_code.specs.Templates.{value_of, form_code, address_of, checked_code, converted_code, unary_code, binary_code, step_code, short_code, static_or, words_of}
+use Rattle.al_code.specs.Templates.{index_code, value_of, form_code, address_of, checked_code, converted_code, unary_code, binary_code, step_code, short_code, static_or, words_of}
 use Rattle.al_link_image.specs.declared.parts.Region.{Region}
 use Rattle.al_machine.specs.declared.regions.Entered.{Entered}
 use Rattle.al_machine.specs.declared.code.Step.{Step}
 use Rattle.al_machine.specs.declared.instruction.Exception.TheVariants as exception
-use Rattle.al_machine.specs.declared.instruction.Flow.{Flow}
-use Rattle.al_machine.specs.declared.instruction.Flow.TheVariants.{On, To}
-use Rattle.al_machine.specs.declared.instruction.Trap.{Trap}
-use Rattle.al_machine.specs.declared.instruction.Trap.TheVariants.{Raised, Stuck}
-use Rattle.al_machine.specs.declared.instruction.Instruction.{Instruction}
+use Rattle.al_machine.specs.declared.instruction.Trap.TheVariants.{Raised}
 use Rattle.al_machine.specs.declared.instruction.Instruction.TheVariants as kind
-use Rattle.al_machine.specs.declared.operation.Operation.{Operation}
 use Rattle.al_machine.specs.declared.operation.Operation.TheVariants as operation
-use Rattle.al_machine.specs.Operations.{operation_of, plain_operation, sized_operation}
+use Rattle.al_machine.specs.Operations.{operation_of, sized_operation}
 use Rattle.al_machine.specs.Code.{fetch}
 use Rattle.al_machine.specs.Machine.{Machine, IsWithin}
-use Rattle.al_machine.specs.Stack.{word_at, put, put_result, pushed, checked, binary}
-use Rattle.al_machine.specs.Memory.{is_open, loaded}
-use Rattle.al_machine.specs.Arithmetic.{operated, changed}
-use Rattle.al_machine.specs.declared.instruction.BinaryOperator.TheVariants as machine
+use Rattle.al_machine.specs.Stack.{word_at, put, pushed}
+use Rattle.al_machine.specs.Memory.{is_open, put_address}
 use Rattle.al_machine.specs.Bursts.{At}
 use Rattle.al_machine.specs.Frames.{followed, own_place, framed, push_address}
 use Rattle.al_machine.specs.Table.{on, exec}
-use Rattle.al_meaning.specs.Scalars.{Failure, ConstraintError, ProgramError, Meaningless, Valued, within, number_of, truth_of, with_truth, applied, applied_to, stepped}
-use Rattle.al_meaning_code.proofs.Plain.{then_value, Variables, or_static, decided, named, value, value_of_form, converted, checked_value}
+use Rattle.al_meaning.specs.Scalars.{ConstraintError, ProgramError, Meaningless, Valued, within, truth_of, with_truth, applied, applied_to, stepped}
+use Rattle.al_meaning_code.proofs.Plain.{Placed, then_place, in_array, element, indexed, word_in, placed, both_true, placed_is, variable_in, then_value, Variables, or_static, decided, value, value_of_form, converted, checked_value}
 use Rattle.al_meaning_code.proofs.Machines.{leads_on, stays, traps_after, goes, fails, size_cons, size-append}
-use Rattle.al_meaning_code.specs.Running.{at, Leads, Traps}
-use Rattle.al_meaning_code.proofs.Effects.{within_put, put_pushed, self_pushed, pushes, pushes_not, loads, operates, changes, checks}
+use Rattle.al_meaning_code.specs.Running.{at, Leads}
+use Rattle.al_meaning_code.proofs.Effects.{offsets, indexes, put_pushed, loads}
 use Rattle.al_meaning_code.specs.Showing.{Pushed}
+use Rattle.al_meaning_code.proofs.InImages.{size_some}
 use Rattle.al_meaning_code.proofs.Standing.{stands_front, stands_back}
 use Rattle.al_meaning_code.specs.Standing.{Stands}
-use Rattle.al_meaning_code.proofs.Operators.{plain_for, operator_for, binary_is, operation_is, agree-applied, agree-number, unary_plain, unary_for, unary_operation_is, agree-changed}
-use Rattle.al_meaning_code.specs.Laws.{Agree}
+use Rattle.al_meaning_code.proofs.Operators.{plain_for}
 use Rattle.al_meaning_code.specs.Subset.{IsScalar}
 use Rattle.al_code.specs.declared.piece.Construct.TheVariants as construct
 use Rattle.al_code.specs.declared.piece.Target.TheVariants as target
-use Rattle.al_code.specs.Pieces.{Leaving, closed, jump_of}
+use Rattle.al_code.specs.Pieces.{Leaving, closed}
 use Rattle.al_code.specs.ExprPieces.{guarded, unless_zero, join}
-use Rattle.al_meaning.specs.Scalars.{truth}
 use Rattle.al_meaning_code.proofs.Machines.{jumps, jumps_at_zero, passes_at_one, jump_size}
 use Rattle.al_meaning_code.proofs.Standing.{opened, size-closed, inner}
 use Rattle.al_meaning_code.proofs.Operators.{two_truths}
-use Rattle.al_meaning_code.proofs.Expressions.{Short, Ends, ends_after, then_ends, result_ends, push_ends, operator_ends, unary_ends, check_ends, plain_some}
+use Rattle.al_meaning_code.proofs.Expressions.{Ends, ends_after, then_ends, push_ends, operator_ends, unary_ends, check_ends, short_after, short_any, fails_on}
 use Rattle.al_meaning_code.specs.Subset.{needs, needs_of, needs_form, needs_value}
-use Rattle.al_meaning_code.specs.Subset.{IsVariable, OrStatic, IsIn, IsInForm, IsInValue}
+use Rattle.al_meaning_code.specs.Subset.{needs_name, IsName, OrStatic, IsIn, IsInForm, IsInValue}
+use Rattle.al_meaning.specs.States.{further}
 use Rattle.al_meaning_code.specs.Showing.{Linked, Reaches, Shows}
 
 frame_some : (d w : ℕ) → 0 < size_of (instr.Frame d w)
@@ -156,7 +147,7 @@ module _ (objects : List Region) (inside : List Entered) (code : List Step) (lin
   reaches_kept m n (places.Frame d w) first frame kept r = (r.0, subst (λ (f : ℕ). Linked linked depth floor V address (depth - d) n f r.0) (sym frame) (linked_kept (depth - d) m n m.frame r.0 first kept r.1), r.2)
   reaches_kept m n (places.Static s w) first frame kept r = r
 
-  module _ (below : (p : ObjectPlace) → V p → address p < floor) (opened_ : (p : ObjectPlace) → V p → is_open objects inside 0 (address p) 1 ≡ true) where
+  module _ (below : (p : ObjectPlace) → V p → address p < floor) (opened_ : (p : ObjectPlace) → V p → is_open objects inside 0 (address p) 1 ≡ true) (linear : (p : ObjectPlace) (k : ℕ) → V p → V (further p k) → address (further p k) ≡ address p + k) where
     pub pushed_shows : (env : Variables) (m n : Machine) (v : ℤ) → Shows linked depth floor V address env m → Pushed m n v → Shows linked depth floor V address env n
     pushed_shows env m n v s x =
         let a = s.above in let t = x.top in
@@ -186,34 +177,131 @@ module _ (objects : List Region) (inside : List Entered) (code : List Step) (lin
         let more : pc + size_of (instr.Global (address (places.Static y w))) ≡ pc + size (Using (instr.Global w) (link links.Data y) ∷ []) = omega (arith, same, size_cons (Using (instr.Global w) (link links.Data y)) []) in
         push_ends objects inside code (kind.Global (address (places.Static y w))) pc _ _ 1 m (pos (address (places.Static y w))) there more (omega (arith, more, same)) refl s.within (omega arith)
 
-    -- the value of a variable
-    pub variable_ends : (env : Variables) (ends : Target → ℕ) (p : ObjectPlace) (pc : ℕ) (m : Machine) → V p → Shows linked depth floor V address env m → Stands code linked ends pc (place_code links.Data depth p ++ of_size sized.Load 1) → Ends objects inside code (at pc m) pc m (pc + size (place_code links.Data depth p ++ of_size sized.Load 1)) 1 (Ok (env p))
+    -- ---- addresses of components
+
+    abbrev pub address_value : Placed → Valued
+    address_value (Ok p) = Ok (pos (address p))
+    address_value (Err f) = Err f
+
+    -- addresses are small
+    reach : (env : Variables) (m : Machine) (p : ObjectPlace) → Shows linked depth floor V address env m → V p → address p ≤ 281474976710656
+    reach env m p s h = let b = below p h in let a = s.above in let w = s.within in let wm = w.memory in let wo = w.own in let wr = w.room in omega arith
+
+    component_ends : (env : Variables) (ends : Target → ℕ) (c : List Piece) (offset_ pc need : ℕ) (m : Machine) (o : Placed) → Shows linked depth floor V address env m → ((q : ObjectPlace) → o ≡ Ok q → V q × V (further q offset_)) → Stands code linked ends pc (c ++ of_size sized.Field offset_) → Ends objects inside code (at pc m) pc m (pc + size c) need (address_value o)
+        → Ends objects inside code (at pc m) pc m (pc + size (c ++ of_size sized.Field offset_)) need (address_value (then_place o (λ q. Ok (further q offset_))))
     unfolding exec operation_of sized_operation
-    variable_ends env ends p pc m var s stands = go (place_ends env ends p pc m var s (stands_front code linked ends pc pcode _ stands))
+    component_ends env ends c offset_ pc need m (Ok q) s h stands (inl x) =
+        let i = instr.Sized sized.Field offset_ in
+        let total : (pc + size c) + size_of i ≡ pc + size (c ++ Whole i ∷ []) = omega (arith, size-append c (Whole i ∷ []), size_cons (Whole i) []) in
+        let here = stands_back code linked ends pc c (Whole i ∷ []) stands in
+        let n = x.0 in let push = x.2 in let v = h q refl in
+        let sum = linear q offset_ v.0 v.1 in
+        let b = reach env m (further q offset_) s v.1 in
+        let u = push.within in let ur = u.room in let pt = push.top in let pf = push.first in
+        let fits : address q + offset_ ≤ 281474976710656 = omega arith in
+        let done = put m.top n (pos (address q + offset_)) in
+        let step = goes objects inside code (pc + size c) ((pc + size c) + size_of i) (kind.Field offset_) n done here.0 (ap on (offsets objects inside m n (address q) offset_ s.within push fits)) in
+        let step' = subst (λ (k : ℕ). Leads objects inside code (at (pc + size c) n) (at k done)) total step in
+        let pushed_ = put_pushed m n (pos (address q + offset_)) s.within push.within push.first push.frame push.long (omega arith) (λ k l. push.kept k l) in
+        inl (done, leads_on objects inside code (at pc m) (at (pc + size c) n) _ x.1 step', subst (λ (k : ℕ). Pushed m done (pos k)) (sym sum) pushed_)
+    component_ends env ends c offset_ pc need m (Ok q) s h stands (inr x) = inr (short_after objects inside code (at pc m) (at pc m) m m pc (pc + size c) pc (pc + size (c ++ of_size sized.Field offset_)) need need refl (omega arith) (omega arith) (omega (arith, size-append c (of_size sized.Field offset_))) (stays objects inside code (at pc m)) x)
+    component_ends env ends c offset_ pc need m (Err f) s h stands x = fails_on objects inside code (at pc m) (at pc m) m m pc (pc + size c) pc (pc + size (c ++ of_size sized.Field offset_)) need need f refl (omega arith) (omega arith) (omega (arith, size-append c (of_size sized.Field offset_))) (stays objects inside code (at pc m)) x
+
+    nonnegative : (low i : ℤ) → int_le low i ≡ true → (i -ℤ low) ≡ pos (unsigned_abs (i -ℤ low))
+    nonnegative low i e = go (i -ℤ low) refl
       where
-        pcode : List Piece
-        pcode = place_code links.Data depth p
+        go : (d : ℤ) → (i -ℤ low) ≡ d → d ≡ pos (unsigned_abs d)
+        go (pos n) is = refl
+        go (negsuc n) is = absurd (let l : ⊥ = grind (arith, ints) in l)
 
-        load : Instr
-        load = instr.Sized sized.Load 1
+    scaled : (low i : ℤ) (place words : ℕ) → int_le low i ≡ true → pos place +ℤ ((i -ℤ low) *ℤ pos words) ≡ pos (place + unsigned_abs (i -ℤ low) * words)
+    scaled low i place words e = ap (λ (d : ℤ). pos place +ℤ (d *ℤ pos words)) (nonnegative low i e) ∙ refl
 
-        here : Stands code linked ends (pc + size pcode) (Whole load ∷ [])
-        here = stands_back code linked ends pc pcode (Whole load ∷ []) stands
+    -- an index that is within its bounds, or Constraint_Error
+    index_ends : (env : Variables) (ends : Target → ℕ) (b : Bounds) (words pc need : ℕ) (m n p : Machine) (q : ObjectPlace) (i : ℤ) → Shows linked depth floor V address env m → V q → (int_le b.low i ≡ true → int_le i b.high ≡ true → V (element b words q i)) → Pushed m n (pos (address q)) → Pushed n p i → Stands code linked ends pc (index_code b words)
+        → Ends objects inside code (at pc p) pc m (pc + size (index_code b words)) need (address_value (in_array (int_le b.low i && int_le i b.high) (element b words q i)))
+    unfolding exec operation_of
+    index_ends env ends b words pc need m n p q i s v h x y stands = go (int_le b.low i && int_le i b.high) refl
+      where
+        ins : Instr
+        ins = instr.Index b.low b.high words
 
-        total : (pc + size pcode) + size_of load ≡ pc + size (pcode ++ Whole load ∷ [])
-        total = omega (arith, size-append pcode (Whole load ∷ []), size_cons (Whole load) [])
+        k : ℕ
+        k = unsigned_abs (i -ℤ b.low) * words
 
-        go : Ends objects inside code (at pc m) pc m (pc + size pcode) 1 (Ok (pos (address p))) → Ends objects inside code (at pc m) pc m (pc + size (pcode ++ Whole load ∷ [])) 1 (Ok (env p))
-        go (inr x) = inr (x.0, traps_after objects inside code (at pc m) (at pc m) pc _ pc (pc + size pcode) exception.Storage (omega arith) (omega (arith, total)) (stays objects inside code (at pc m)) x.1)
-        go (inl x) =
-            let n = x.0 in let push = x.2 in
-            let w = push.within in let wr = w.room in let t = push.top in let f = push.first in let a = s.above in let b = below p var in
-            let effect = loads objects inside m n (address p) s.within push (omega arith) (omega arith) (opened_ p var) in
-            let done = put m.top n (word_at m (address p)) in
-            let step = goes objects inside code (pc + size pcode) ((pc + size pcode) + size_of load) (kind.Load 1) n done here.0 (ap on effect) in
-            let step' = subst (λ (q : ℕ). Leads objects inside code (at (pc + size pcode) n) (at q done)) total step in
-            let pushed_ = put_pushed m n (word_at m (address p)) s.within w push.first push.frame push.long (omega arith) (λ k h. push.kept k h) in
-            inl (done, leads_on objects inside code (at pc m) (at (pc + size pcode) n) _ x.1 step', subst (λ (v : ℤ). Pushed m done v) (s.holds p var) pushed_)
+        len : pc + size_of ins ≡ pc + size (Whole ins ∷ [])
+        len = omega (arith, size_cons (Whole ins) [])
+
+        less : pc < pc + size (Whole ins ∷ [])
+        less = let some = size_some ins in omega (arith, size_cons (Whole ins) [])
+
+        effect : (t : Bool) → (int_le b.low i && int_le i b.high) ≡ t → exec objects inside (pc + size_of ins) (kind.Index b.low b.high words) p ≡ on (if t then put_address m.top p (pos (address q) +ℤ ((i -ℤ b.low) *ℤ pos words)) else Err (Raised exception.Constraint))
+        effect t e = ap on (indexes objects inside m b.low b.high words n p (address q) i s.within x y ∙ ap (λ (z : Bool). if z then put_address m.top p (pos (address q) +ℤ ((i -ℤ b.low) *ℤ pos words)) else Err (Raised exception.Constraint)) e)
+
+        go : (t : Bool) → (int_le b.low i && int_le i b.high) ≡ t → Ends objects inside code (at pc p) pc m (pc + size (Whole ins ∷ [])) need (address_value (in_array t (element b words q i)))
+        go false e = inl (fails objects inside code pc (pc + size_of ins) (pc + size (Whole ins ∷ [])) (kind.Index b.low b.high words) p exception.Constraint stands.0 less (effect false e))
+        go true e =
+            let both_ = both_true (int_le b.low i) (int_le i b.high) e in
+            let w = h both_.0 both_.1 in
+            let sum = linear q k v w in
+            let r = reach env m (element b words q i) s w in
+            let is : nat_lt (address q + k) 9223372036854775808 ≡ true = grind (arith, nat_tests) in
+            let done = put m.top p (pos (address q + k)) in
+            let put_is : put_address m.top p (pos (address q) +ℤ ((i -ℤ b.low) *ℤ pos words)) ≡ Ok done = ap (λ (z : ℤ). put_address m.top p z) (scaled b.low i (address q) words both_.0) ∙ (rw is refl) in
+            let step = goes objects inside code pc (pc + size_of ins) (kind.Index b.low b.high words) p done stands.0 (effect true e ∙ ap on put_is) in
+            let step' = subst (λ (j : ℕ). Leads objects inside code (at pc p) (at j done)) len step in
+            let fx = x.first in let fy = y.first in let tx = x.top in let ty = y.top in let py = y.within in let pr = py.room in
+            let pushed_ = put_pushed m p (pos (address q + k)) s.within y.within (fy ∙ fx) (y.frame ∙ x.frame) (y.long ∙ x.long) (omega arith) (λ j l. y.kept j (omega arith) ∙ x.kept j l) in
+            inl (done, step', subst (λ (j : ℕ). Pushed m done (pos j)) (sym sum) pushed_)
+
+    index_value : (b : Bounds) (words : ℕ) (q : ObjectPlace) (x : Valued) → then_value x (λ i. address_value (in_array (int_le b.low i && int_le i b.high) (element b words q i))) ≡ address_value (indexed b words q x)
+    index_value b words q (Ok i) = refl
+    index_value b words q (Err f) = refl
+
+    -- the address of an array, the index, the address of the component
+    indexed_ends : (env : Variables) (ends : Target → ℕ) (ca cv : List Piece) (b : Bounds) (words pc na nv : ℕ) (m : Machine) (o : Placed) (x : Valued) → Shows linked depth floor V address env m → ((q : ObjectPlace) → o ≡ Ok q → V q × ((i : ℤ) → int_le b.low i ≡ true → int_le i b.high ≡ true → V (element b words q i)))
+        → Stands code linked ends pc ((ca ++ cv) ++ index_code b words) → Ends objects inside code (at pc m) pc m (pc + size ca) na (address_value o) → ((n : Machine) (a : ℤ) → Pushed m n a → Ends objects inside code (at (pc + size ca) n) (pc + size ca) n ((pc + size ca) + size cv) nv x)
+        → Ends objects inside code (at pc m) pc m (pc + size ((ca ++ cv) ++ index_code b words)) (max na (1 + nv)) (address_value (then_place o (λ q. indexed b words q x)))
+    indexed_ends env ends ca cv b words pc na nv m (Ok q) x s h stands (inl z) run =
+        let n = z.0 in let push = z.2 in
+        let v = h q refl in
+        let mid = pc + size ca in
+        let mid2 = mid + size cv in
+        let to = pc + size ((ca ++ cv) ++ index_code b words) in
+        let same : pc + size (ca ++ cv) ≡ mid2 = omega (arith, size-append ca cv) in
+        let si = subst (λ (k : ℕ). Stands code linked ends k (index_code b words)) same (stands_back code linked ends pc (ca ++ cv) (index_code b words) stands) in
+        let total : mid2 + size (index_code b words) ≡ to = omega (arith, same, size-append (ca ++ cv) (index_code b words)) in
+        let t = push.top in
+        let inner_ = then_ends objects inside code (at mid n) n m mid mid2 mid to nv (max na (1 + nv)) x (λ i. address_value (in_array (int_le b.low i && int_le i b.high) (element b words q i))) push.first (omega arith) (omega arith) (omega arith) (omega (arith, total)) (run n (pos (address q)) push)
+        (λ i p y. subst (λ (k : ℕ). Ends objects inside code (at mid2 p) mid2 m k (max na (1 + nv)) (address_value (in_array (int_le b.low i && int_le i b.high) (element b words q i)))) total (index_ends env ends b words mid2 (max na (1 + nv)) m n p q i s v.0 (v.1 i) push y si)) in
+        subst (λ (k : Valued). Ends objects inside code (at pc m) pc m to (max na (1 + nv)) k) (index_value b words q x)
+        (ends_after objects inside code (at pc m) (at mid n) m mid pc to (max na (1 + nv)) (then_value x (λ i. address_value (in_array (int_le b.low i && int_le i b.high) (element b words q i)))) (omega arith) z.1 inner_)
+    indexed_ends env ends ca cv b words pc na nv m (Ok q) x s h stands (inr z) run =
+        let total : (pc + size ca) + size cv + size (index_code b words) ≡ pc + size ((ca ++ cv) ++ index_code b words) = omega (arith, size-append (ca ++ cv) (index_code b words), size-append ca cv) in
+        short_any objects inside code (at pc m) m pc (pc + size ((ca ++ cv) ++ index_code b words)) (max na (1 + nv)) (address_value (indexed b words q x)) (short_after objects inside code (at pc m) (at pc m) m m pc (pc + size ca) pc (pc + size ((ca ++ cv) ++ index_code b words)) na (max na (1 + nv)) refl (omega arith) (omega arith) (omega (arith, total)) (stays objects inside code (at pc m)) z)
+    indexed_ends env ends ca cv b words pc na nv m (Err f) x s h stands z run =
+        let total : (pc + size ca) + size cv + size (index_code b words) ≡ pc + size ((ca ++ cv) ++ index_code b words) = omega (arith, size-append (ca ++ cv) (index_code b words), size-append ca cv) in
+        fails_on objects inside code (at pc m) (at pc m) m m pc (pc + size ca) pc (pc + size ((ca ++ cv) ++ index_code b words)) na (max na (1 + nv)) f refl (omega arith) (omega arith) (omega (arith, total)) (stays objects inside code (at pc m)) z
+
+    -- the word at an address
+    load_ends : (env : Variables) (ends : Target → ℕ) (c : List Piece) (pc need : ℕ) (m : Machine) (o : Placed) → Shows linked depth floor V address env m → ((q : ObjectPlace) → o ≡ Ok q → V q) → Stands code linked ends pc (c ++ of_size sized.Load 1) → Ends objects inside code (at pc m) pc m (pc + size c) need (address_value o)
+        → Ends objects inside code (at pc m) pc m (pc + size (c ++ of_size sized.Load 1)) need (word_in env o)
+    unfolding exec operation_of sized_operation
+    load_ends env ends c pc need m (Ok p) s h stands (inl x) =
+        let i = instr.Sized sized.Load 1 in
+        let total : (pc + size c) + size_of i ≡ pc + size (c ++ Whole i ∷ []) = omega (arith, size-append c (Whole i ∷ []), size_cons (Whole i) []) in
+        let here = stands_back code linked ends pc c (Whole i ∷ []) stands in
+        let var = h p refl in
+        let n = x.0 in let push = x.2 in
+        let w = push.within in let wr = w.room in let t = push.top in let f = push.first in let a = s.above in let b = below p var in
+        let effect = loads objects inside m n (address p) s.within push (omega arith) (omega arith) (opened_ p var) in
+        let done = put m.top n (word_at m (address p)) in
+        let step = goes objects inside code (pc + size c) ((pc + size c) + size_of i) (kind.Load 1) n done here.0 (ap on effect) in
+        let step' = subst (λ (q : ℕ). Leads objects inside code (at (pc + size c) n) (at q done)) total step in
+        let pushed_ = put_pushed m n (word_at m (address p)) s.within w push.first push.frame push.long (omega arith) (λ k l. push.kept k l) in
+        inl (done, leads_on objects inside code (at pc m) (at (pc + size c) n) _ x.1 step', subst (λ (v : ℤ). Pushed m done v) (s.holds p var) pushed_)
+    load_ends env ends c pc need m (Ok p) s h stands (inr x) = inr (short_after objects inside code (at pc m) (at pc m) m m pc (pc + size c) pc (pc + size (c ++ of_size sized.Load 1)) need need refl (omega arith) (omega arith) (omega (arith, size-append c (of_size sized.Load 1))) (stays objects inside code (at pc m)) x)
+    load_ends env ends c pc need m (Err f) s h stands x = fails_on objects inside code (at pc m) (at pc m) m m pc (pc + size c) pc (pc + size (c ++ of_size sized.Load 1)) need need f refl (omega arith) (omega arith) (omega (arith, size-append c (of_size sized.Load 1))) (stays objects inside code (at pc m)) x
 
     -- a number that is known
     pub number_ends : (env : Variables) (ends : Target → ℕ) (z : ℤ) (pc need : ℕ) (m : Machine) → IsWithin m → 1 ≤ need → Stands code linked ends pc (number z) → Ends objects inside code (at pc m) pc m (pc + size (number z)) need (Ok z)
@@ -404,13 +492,6 @@ module _ (objects : List Region) (inside : List Entered) (code : List Step) (lin
     static_gives env (Some v) c n r P h g ends pc m s stands = number_ends env ends v.word pc 1 m s.within (omega arith) stands
     static_gives env None c n r P h g ends pc m s stands = g h ends pc m s stands
 
-    name_gives : (env : Variables) (name : NameTree) (w : ℕ) → IsVariable V name → w ≡ 1 → Gives env (address_of depth name ++ of_size sized.Load w) 1 (named env name)
-    name_gives env (ObjectName p is_constant) w h one_ = λ ends pc m s stands.
-        subst (λ (k : ℕ). Stands code linked ends pc (place_code links.Data depth p ++ of_size sized.Load k) → Ends objects inside code (at pc m) pc m (pc + size (place_code links.Data depth p ++ of_size sized.Load k)) 1 (Ok (env p))) (sym one_)
-        (λ st. variable_ends env ends p pc m h s st) stands
-    name_gives env (ComponentName whole_ offset) w h one_ = absurd h
-    name_gives env (IndexedName array index bounds words) w h one_ = absurd h
-
     binary_gives : (env : Variables) (o : BinaryOperator) (w nx ny : ℕ) (cx cy : List Piece) (x y : Valued) → IsScalar o → Gives env cx nx x → Gives env cy ny y → Gives env ((cx ++ cy) ++ binary_code o w) (max nx (1 + ny)) (then_value x (λ a. then_value y (applied o a)))
     binary_gives env o w nx ny cx cy x y scalar gx gy =
         subst (λ (c : List Piece). Gives env c (max nx (1 + ny)) (then_value x (λ a. then_value y (applied o a)))) (sym (append_assoc cx cy (binary_code o w)))
@@ -428,7 +509,9 @@ module _ (objects : List Region) (inside : List Entered) (code : List Step) (lin
 
       form_gives : (env : Variables) (w : ℕ) (form : FormTree) → IsInForm V w form → Gives env (form_code depth w form) (needs_form form) (value_of_form env form)
       form_gives env w (LiteralForm v) h = λ ends pc m s stands. number_ends env ends v.word pc 1 m s.within (omega arith) stands
-      form_gives env w (NamedForm name) h = name_gives env name w h.0 h.1
+      form_gives env w (NamedForm name) h = λ ends pc m s stands.
+          subst (λ (k : ℕ). Stands code linked ends pc (address_of depth name ++ of_size sized.Load k) → Ends objects inside code (at pc m) pc m (pc + size (address_of depth name ++ of_size sized.Load k)) (needs_name name) (word_in env (placed env name))) (sym h.1)
+          (λ st. load_ends env ends (address_of depth name) pc (needs_name name) m (placed env name) s (λ q e. variable_in V name q h.0 (placed_is env name q e)) st (address_gives env name h.0 ends pc m s (stands_front code linked ends pc (address_of depth name) (of_size sized.Load 1) st))) stands
       form_gives env w (UnaryForm operator x) h =
           then_gives env (value_of depth x) (unary_code operator) (needs x) (needs x) (value env x) (applied_to operator) (omega arith) (value_gives env x h)
           (λ ends pc m p v s y st. unary_ends objects inside code operator pc (needs x) linked ends m p v s.within y st)
@@ -444,6 +527,20 @@ module _ (objects : List Region) (inside : List Entered) (code : List Step) (lin
       form_gives env w (OthersForm count x) h = absurd h
       form_gives env w (CallForm call) h = absurd h
       form_gives env w ClockForm h = absurd h
+
+      -- the address of a variable or of a component
+      pub address_gives : (env : Variables) (name : NameTree) → IsName V name → Gives env (address_of depth name) (needs_name name) (address_value (placed env name))
+      address_gives env (ObjectName p is_constant) h = λ ends pc m s stands. place_ends env ends p pc m h s stands
+      address_gives env (ComponentName whole_ offset_) h = λ ends pc m s stands.
+          component_ends env ends (address_of depth whole_) offset_ pc (needs_name whole_) m (placed env whole_) s (λ q e. (let i = placed_is env whole_ q e in (variable_in V whole_ q h.0 i, h.1 q i))) stands
+          (address_gives env whole_ h.0 ends pc m s (stands_front code linked ends pc (address_of depth whole_) (of_size sized.Field offset_) stands))
+      address_gives env (IndexedName array index b words) h = λ ends pc m s stands.
+          let ca = address_of depth array in
+          let cv = value_of depth index in
+          let front = stands_front code linked ends pc (ca ++ cv) (index_code b words) stands in
+          indexed_ends env ends ca cv b words pc (needs_name array) (needs index) m (placed env array) (value env index) s (λ q e. (let i = placed_is env array q e in (variable_in V array q h.0 i, λ k low high. h.2 q k i low high))) stands
+          (address_gives env array h.0 ends pc m s (stands_front code linked ends pc ca cv front))
+          (λ n a push. value_gives env index h.1 ends (pc + size ca) n (pushed_shows env m n a s push) (stands_back code linked ends pc ca cv front))
 
       converted_gives : (env : Variables) (c : Conversion) (x : ValueTree) → IsInValue V x → Gives env (converted_code depth c x) (needs_value x) (converted env c x)
       converted_gives env c (Checked x bounds) h =

@@ -1,5 +1,5 @@
 -- A setting that meets the premises of the laws: X := X + 1 in the frame of a main procedure, where X is its word 3.
-use Rattle.std.specs.Prelude.{◌≡◌, ℕ, ℤ, pos, false, ◌&&◌, ◌==◌, List, [], ◌∷◌, ◌++◌, length, Option, Some, None}
+use Rattle.std.specs.Prelude.{◌≡◌, ℕ, ℤ, pos, false, ◌&&◌, ◌==◌, List, [], ◌∷◌, ◌++◌, length, Some, None}
 use Rattle.al_base.specs.declared.unit_key.UnitKey.{UnitKey}
 use Rattle.al_base.specs.declared.unit_key.UnitKind.TheVariants.{Body}
 use Rattle.al_view.specs.declared.view.ObjectPlace.{ObjectPlace}

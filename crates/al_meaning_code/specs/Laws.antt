@@ -1,5 +1,5 @@
 -- The laws: what the code of labelled trees does is what they mean.
-use Rattle.std.specs.Prelude.{◌≡◌, ◌≢◌, ℕ, zero, suc, ◌+◌, ◌<◌, ◌≤◌, ⊤, ℤ, Bool, true, false, List, [], ◌∷◌, ◌++◌, length, Option, Some, None, Result, Ok, Err}
+use Rattle.std.specs.Prelude.{◌≡◌, ◌≢◌, ℕ, zero, suc, ◌+◌, ◌<◌, ◌≤◌, ⊤, ℤ, Bool, true, false, List, [], ◌∷◌, ◌++◌, length, Some, None, Result, Ok, Err}
 use Rattle.al_base.specs.declared.unit_key.UnitKey.{UnitKey}
 use Rattle.al_view.specs.ViewUses.{link}
 use Rattle.al_view.specs.declared.link.LinkKind.TheVariants as links
@@ -25,7 +25,7 @@ use Rattle.al_instr.specs.declared.instruction.Instr.TheVariants as instr
 use Rattle.al_instr.specs.Codes.{code_bytes, size_of}
 use Rattle.al_code.specs.declared.piece.Target.{Target}
 use Rattle.al_code.specs.declared.piece.Target.TheVariants as target
-use Rattle.al_code.specs.Pieces.{Piece, Whole, Using, Leaving, Begins, Line, size}
+use Rattle.al_code.specs.Pieces.{Piece, Whole, Using, Leaving, size}
 use Rattle.al_code.specs.ExprPieces.{one}
 use Rattle.al_code.specs.Routines.{procedure_code}
 use Rattle.al_code.specs.Statements.{statements_code}
@@ -35,26 +35,28 @@ use Rattle.al_machine.specs.declared.regions.Entered.{Entered}
 use Rattle.al_machine.specs.declared.code.Step.{Step}
 use Rattle.al_machine.specs.declared.instruction.BinaryOperator.{BinaryOperator as MachineBinary}
 use Rattle.al_machine.specs.declared.instruction.UnaryOperator.{UnaryOperator as MachineUnary}
+use Rattle.al_machine.specs.declared.instruction.Exception.{Exception}
 use Rattle.al_machine.specs.declared.instruction.Exception.TheVariants as exception
+use Rattle.al_machine.specs.declared.instruction.Instruction.{Instruction}
 use Rattle.al_machine.specs.declared.instruction.Trap.{Trap}
 use Rattle.al_machine.specs.declared.instruction.Trap.TheVariants.{Raised}
 use Rattle.al_machine.specs.declared.instruction.Instruction.TheVariants as kind
 use Rattle.al_machine.specs.declared.operation.Operation.TheVariants as operation
 use Rattle.al_machine.specs.Arithmetic.{operated, changed}
 use Rattle.al_machine.specs.Operations.{operation_of}
-use Rattle.al_machine.specs.Code.{steps_from}
+use Rattle.al_machine.specs.Code.{fetch, steps_from}
 use Rattle.al_machine.specs.Machine.{Machine}
 use Rattle.al_machine.specs.Memory.{is_open}
 use Rattle.al_meaning.specs.Scalars.{ConstraintError, ProgramError, Meaningless, Valued, applied, applied_to}
-use Rattle.al_meaning.specs.States.{State, same_place}
+use Rattle.al_meaning.specs.States.{State, same_place, further, Outcome, Raises, Words}
 use Rattle.al_meaning.specs.Expressions.{Calls, value, called}
 use Rattle.al_meaning.specs.Statements.{all_done}
 use Rattle.al_meaning.specs.Partitions.{body_of, calls_of, start, meaning}
-use Rattle.al_meaning_code.specs.Running.{Lines, at}
+use Rattle.al_meaning_code.specs.Running.{Lines, at, TrapsAt}
 use Rattle.al_meaning_code.specs.Standing.{Stands, AreMarked}
 use Rattle.al_meaning_code.specs.Showing.{Shows}
 use Rattle.al_meaning_code.specs.Subset.{needs, IsScalar, IsIn, AreIn, AreDeclared}
-use Rattle.al_meaning_code.specs.Effects.{Evaluates, Runs, CallRuns}
+use Rattle.al_meaning_code.specs.Effects.{Evaluates, Runs, CallRuns, table_line, line_or}
 
 -- ---- operators
 
@@ -120,10 +122,11 @@ Globals c s w = c.is_global s w ≡ true
 abbrev pub Among : Setting → ObjectPlace → Type 0
 Among c = Joined (λ d w. c.is_local d w ≡ true) (Globals c)
 
--- variables lie apart from each other; the task may touch them and what is above them; those of frames are of some body
+-- the words of an object lie one after the other, and variables apart from each other; the task may touch them and what is above them; those of frames are of some body
 pub record IsLaidOut (c : Setting) : Type 0 where
   pub below : (p : ObjectPlace) → Among c p → c.address p < c.floor
   pub opens : (p : ObjectPlace) → Among c p → is_open c.objects c.inside 0 (c.address p) 1 ≡ true
+  pub linear : (p : ObjectPlace) (k : ℕ) → Among c p → Among c (further p k) → c.address (further p k) ≡ c.address p + k
   pub apart : (p q : ObjectPlace) → Among c p → Among c q → same_place p q ≡ false → c.address p ≢ c.address q
   pub alike : (p q : ObjectPlace) → Among c p → Among c q → same_place p q ≡ true → c.address p ≡ c.address q
   pub nested : (d w : ℕ) → Among c (places.Frame d w) → 1 ≤ d
@@ -200,6 +203,24 @@ CallsAreDone =
     → (n : ℕ) (symbol : Symbol) → members symbol ≡ true → (line : UnitKey × ℕ) (st : State) (ends : Target → ℕ) (pc : ℕ) (m : Machine)
     → ShowsIn c st m → StandsIn c ends pc (call_code c.depth (call_of symbol))
     → CallRuns c.objects c.inside c.code c.lines c.linked c.depth c.floor (stack_for words room n) (Among c) c.address line (at pc m) m (pc + size (call_code c.depth (call_of symbol))) (suc n) (called (calls_of us n) (call_of symbol) st)
+
+-- the exception at that line is what the call means; nothing is said of what no checked unit does
+abbrev pub IsMeant : Exception → UnitKey × ℕ → Outcome Words → Type 0
+IsMeant e line (Raises ConstraintError told st) = (e ≡ exception.Constraint) × (table_line (line_or line told) ≡ line)
+IsMeant e line (Raises ProgramError told st) = (e ≡ exception.Program) × (table_line (line_or line told) ≡ line)
+IsMeant e line (Raises Meaningless told st) = ⊤
+IsMeant e line _ = ⊥
+
+-- conversely, where no instruction on words follows such a call: an exception other than Storage_Error that a run comes to in fewer than so many
+-- instructions is what the call means within that bound
+abbrev pub ExceptionsAreMeant : Type 0
+ExceptionsAreMeant =
+    (c : Setting) → IsLaidOut c → (us : List UnitTree) (words room : ℕ) (members : Symbol → Bool) → IsFamily c us words room members
+    → (n : ℕ) (symbol : Symbol) → members symbol ≡ true → (st : State) (ends : Target → ℕ) (pc : ℕ) (m : Machine)
+    → ShowsIn c st m → StandsIn c ends pc (call_code c.depth (call_of symbol))
+    → ((i : Instruction) (next : ℕ) → fetch c.code (pc + size (call_code c.depth (call_of symbol))) ≡ Some (operation.Word i, next) → ⊥)
+    → (line : UnitKey × ℕ) (e : Exception) (t : TrapsAt c.objects c.inside c.code c.lines (at pc m) line e) → t.leads.0 ≤ n → e ≢ exception.Storage
+    → IsMeant e line (called (calls_of us n) (call_of symbol) st)
 
 -- ---- partitions
 

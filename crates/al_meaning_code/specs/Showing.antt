@@ -1,5 +1,5 @@
 -- A machine that shows a state: its memory holds what the variables hold, and its links lead to their frames.
-use Rattle.std.specs.Prelude.{◌≡◌, ◌≢◌, ℕ, zero, suc, ◌+◌, ◌-◌, ◌<◌, ◌≤◌, ℤ, List, length, Option, Some}
+use Rattle.std.specs.Prelude.{◌≡◌, ◌≢◌, ℕ, zero, suc, ◌+◌, ◌-◌, ◌<◌, ◌≤◌, ℤ, length, Some}
 use Rattle.al_view.specs.ViewUses.{link}
 use Rattle.al_view.specs.declared.link.LinkKind.TheVariants as links
 use Rattle.al_view.specs.declared.link.LinkSymbol.{LinkSymbol}

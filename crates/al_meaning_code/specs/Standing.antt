@@ -1,5 +1,5 @@
 -- Pieces of code that stand in a program at a place, and their lines.
-use Rattle.std.specs.Prelude.{◌≡◌, ℕ, ◌+◌, ◌<◌, ◌≤◌, ⊤, ℤ, pos, ◌+ℤ◌, List, [], ◌∷◌, Option, Some}
+use Rattle.std.specs.Prelude.{◌≡◌, ℕ, ◌+◌, ◌<◌, ◌≤◌, ⊤, ℤ, pos, ◌+ℤ◌, List, [], ◌∷◌, Some}
 use Rattle.al_base.specs.declared.unit_key.UnitKey.{UnitKey}
 use Rattle.al_view.specs.declared.link.LinkSymbol.{LinkSymbol}
 use Rattle.al_instr.specs.declared.instruction.Instr.{Instr}

@@ -1,6 +1,6 @@
 // Laws of the code, each a function that does nothing and whose contract is the law.
 ghost use Rattle.al_meaning_code.specs.Example.{PremisesAreMet};
-ghost use Rattle.al_meaning_code.specs.Laws.{CallsAreDone, OperatorsAgree, PartitionsAreDone, PiecesStand, StatementsAreDone, ValuesAreGiven};
+ghost use Rattle.al_meaning_code.specs.Laws.{CallsAreDone, ExceptionsAreMeant, OperatorsAgree, PartitionsAreDone, PiecesStand, StatementsAreDone, ValuesAreGiven};
 
 use al_code::trees_tell_code;
 
@@ -39,6 +39,13 @@ pub fn calls_are_done()
 pub fn premises_are_met()
     ensures { PremisesAreMet }
 {}
+
+/// Conversely, an exception that a run of such a call comes to, other than Storage_Error, is what the call means, at that line.
+pub fn exceptions_are_meant()
+    ensures { ExceptionsAreMeant }
+{
+    trees_tell_code();
+}
 
 /// A partition of such procedures, whose items elaborate nothing, is run as it means (ARM 10.2).
 pub fn partitions_are_done()

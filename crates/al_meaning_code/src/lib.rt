@@ -11,6 +11,6 @@
 mod laws;
 
 pub use laws::{
-    calls_are_done, operators_agree, partitions_are_done, pieces_stand, premises_are_met,
-    statements_are_done, values_are_given,
+    calls_are_done, exceptions_are_meant, operators_agree, partitions_are_done, pieces_stand,
+    premises_are_met, statements_are_done, values_are_given,
 };

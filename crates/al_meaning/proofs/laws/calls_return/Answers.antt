@@ -5,4 +5,4 @@ use Rattle.al_meaning.proofs.laws.calls_return.Goals as goal
 
 pub returns : goal.returns
 unfolding applied operated
-returns c = record { recursion = refl; twice_named = refl }
+returns c = record { elaborated = refl; recursion = refl; twice_named = refl }
