@@ -19,8 +19,9 @@ pub fn values_are_given()
     ensures { ValuesAreGiven }
 {}
 
-/// The code of statements, which may call such procedures, does what these mean (ARM 5): it leads to their end, to the exit of a loop or to the end of the body, and the variables hold
-/// what they hold in the state then; or it raises their exception at its line; or it goes on as they do.
+/// The code of statements, which may call procedures of library level without parameters, does what these mean (ARM 5): it leads to their end, to the
+/// exit of a loop or to the end of the body, and the variables hold what they hold in the state then; or it raises their exception at its line; or it
+/// goes on as they do. Or the stack words run out, where those that the statements need don't fit.
 pub fn statements_are_done()
     ensures { StatementsAreDone }
 {
