@@ -4,13 +4,23 @@ use std::alloc::{AllocError, Global};
 use strsim::osa_distance;
 
 /// The nearest of the names that were seen to one that was written.
-#[derive(Drop)]
 pub struct Nearest {
     alloc: Global,
     wanted: String,
     /// How many edits the nearest one is away at most.
     most: usize,
     pub name: Option<Vec<u8>>,
+}
+
+impl Drop for Nearest {
+    fn drop(self) {
+        let Nearest {
+            alloc: _,
+            wanted: _,
+            most: _,
+            name: _,
+        } = self;
+    }
 }
 
 impl Nearest {
@@ -34,13 +44,19 @@ impl Nearest {
         })
     }
 
+    /// Whether a name of that length may be nearer than those before it.
+    pub fn may_be(&self, length: usize) -> bool {
+        self.most > 0 && length.abs_diff(self.wanted.len()) <= self.most
+    }
+
     /// Sees a name: it is the nearest from now on, if it is nearer than those before it.
     ///
     /// # Errors
     ///
     /// `AllocError` if memory runs out.
     pub fn see(&mut self, name: &[u8]) -> Result<(), AllocError> {
-        if name.len().abs_diff(self.wanted.len()) > self.most || self.most == 0 {
+        let is_near = self.may_be(name.len()) && lacking(self.wanted.as_bytes(), name) <= self.most;
+        if !is_near {
             return Ok(());
         }
         let lower = folded(self.alloc, name)?;
@@ -63,4 +79,22 @@ impl Nearest {
         } = self;
         name
     }
+}
+
+// How many letters of a name, in lower case, the wanted one hasn't: it is no fewer edits away.
+fn lacking(wanted: &[u8], name: &[u8]) -> usize {
+    let mut left = [0u16; 256];
+    for byte in wanted {
+        if let Some(count) = left.get_mut(usize::from(*byte)) {
+            *count = count.saturating_add(1);
+        }
+    }
+    let mut lacking = 0usize;
+    for byte in name {
+        match left.get_mut(usize::from(byte.to_ascii_lowercase())) {
+            Some(count) if *count > 0 => *count = count.saturating_sub(1),
+            _ => lacking = lacking.saturating_add(1),
+        }
+    }
+    lacking
 }

@@ -12,17 +12,23 @@ use crate::statements::{statements, tasks};
 use crate::types::no_interpretation;
 use crate::units::units;
 use crate::view::View;
+use al_expected::Grammar;
 use std::alloc::AllocError;
 
-/// Says what there is to say of a diagnostic of this code.
+/// Says what there is to say of a diagnostic of this code; of a syntax error by the rules.
 ///
 /// # Errors
 ///
 /// `AllocError` if memory runs out.
-pub fn tell(view: &View<'_>, code: u16, said: &mut Said) -> Result<(), AllocError> {
+pub fn tell(
+    view: &View<'_>,
+    grammar: Option<&Grammar>,
+    code: u16,
+    said: &mut Said,
+) -> Result<(), AllocError> {
     match code {
         1..=6 => lexical(view, code, said),
-        101 => syntax(view, said),
+        101 => syntax(view, grammar, said),
         200..=299 => units(view, code, said),
         301..=303 => tell_completions(view, code, said),
         304..=310 => tell_declarations(view, code, said),

@@ -50,6 +50,8 @@ AfterUnit||pragma|wide-units
 Anywhere||generic|generic-units
 Anywhere|type ID is|new|derived-types
 Anywhere|is|new|generic-instances
+Anywhere||package ID is new ada . text_io|instances-for-numbers
+Anywhere||package ID is new text_io|instances-for-numbers
 Anywhere||package ID is new|generic-instances
 Anywhere||package ID . ID is new|generic-instances
 Anywhere||procedure ID is new|generic-instances
@@ -138,6 +140,8 @@ Anywhere|pragma priority (||pragma-priority
 Pragma|||pragma-arguments
 Statements||pragma|pragmas-inside
 Protected||pragma priority|pragma-priority
+Protected||pragma attach_handler|interrupts
+Protected||pragma interrupt_handler|interrupts
 Protected||pragma|pragmas-inside
 ProtectedBody||pragma|pragmas-inside
 Record||pragma|pragmas-inside
