@@ -50,8 +50,7 @@ inside these folders aren't read.
   --profile     prints how many instructions of the run lines and bodies had
   --listing     prints the code with its lines and tables
   --watch       goes on: at each line of the standard input the files are read
-                and built again; the words are run, order, checked,
-                obsolete and quit
+                and built again; the words are run, order, obsolete and quit
 
 The exit status is 0, 1 if there is no program, 2 if the words have another
 form, 3 if an exception ended the run.

@@ -145,32 +145,14 @@ fn serve_line<L: FolderLibrary, D: Disk, O: Sink, E: Sink, N: Run>(
         }
         WatchWord::Quit => return Ok(false),
         WatchWord::Unknown => {
-            tell_asked(screen, library, without_return(line))?;
+            screen.tell_line(&[
+                b"the words are run, order, obsolete and quit, and an empty line builds",
+            ])?;
             return Ok(true);
         }
     }
     build_again(alloc, disk, screen, run, library, request, kept, uses)?;
     Ok(true)
-}
-
-// Prints the units that the last build checked, if the line asks for them, and else which words there are.
-fn tell_asked<L: FolderLibrary, O: Sink, E: Sink>(
-    screen: &mut Screen<O, E>,
-    library: &L,
-    line: &[u8],
-) -> Result<(), Failure>
-    ensures { screen.new.output ≡ screen.old.output }
-{
-    if line != b"checked".as_slice() {
-        return screen.tell_line(&[
-            b"the words are run, order, checked, obsolete and quit, and an empty line builds",
-        ]);
-    }
-    let units = library.last_checked();
-    if units.is_empty() {
-        return screen.tell_line(&[b"no unit was checked"]);
-    }
-    tell_parts(screen, units)
 }
 
 // Reads the folders again, and gives the library what has changed. Gives whether all could be read; if not, the library is as before.
