@@ -1,6 +1,7 @@
 // E101: what isn't in the subset, and what is possible there.
 use crate::note;
 use crate::said::{Said, say_outside};
+use crate::telling::Rules;
 use crate::view::View;
 use al_expected::{Grammar, Wanted, phrase, wanted_at};
 use al_sketch::{ScopeKind, Sketch};
@@ -14,20 +15,20 @@ use std::alloc::AllocError;
 /// `AllocError` if memory runs out.
 pub fn syntax(
     view: &View<'_>,
-    grammar: Option<&Grammar>,
+    rules: Option<&Rules<'_>>,
     said: &mut Said,
 ) -> Result<(), AllocError> {
+    let Some(rules) = rules else {
+        return Ok(());
+    };
     let fault = view.at;
-    if let Some(mistake) = mistake_at(view.sketch, fault) {
+    if let Some(mistake) = mistake_at(rules.patterns, view.sketch, fault) {
         note!(said; mistake.as_bytes())?;
-    } else if let Some(construct) = construct_at(view.sketch, fault) {
+    } else if let Some(construct) = construct_at(rules.patterns, view.sketch, fault) {
         say_outside(construct.name.as_bytes(), said)?;
         note!(said; b"instead: ", construct.instead.as_bytes())?;
     }
-    match grammar {
-        Some(grammar) => expected(view, grammar, said),
-        None => Ok(()),
-    }
+    expected(view, rules.grammar, said)
 }
 
 fn expected(view: &View<'_>, grammar: &Grammar, said: &mut Said) -> Result<(), AllocError> {

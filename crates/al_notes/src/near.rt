@@ -44,9 +44,13 @@ impl Nearest {
         })
     }
 
-    /// Whether a name of that length may be nearer than those before it.
-    pub fn may_be(&self, length: usize) -> bool {
-        self.most > 0 && length.abs_diff(self.wanted.len()) <= self.most
+    /// Whether a name, or the name of its file, may be nearer than those before it, by its letters.
+    pub fn may_be(&self, name: &[u8]) -> bool {
+        let wanted = self.wanted.as_bytes();
+        self.most > 0
+            && name.len().abs_diff(wanted.len()) <= self.most
+            && lacking(wanted, name, self.most) <= self.most
+            && lacking(name, wanted, self.most) <= self.most
     }
 
     /// Sees a name: it is the nearest from now on, if it is nearer than those before it.
@@ -55,8 +59,7 @@ impl Nearest {
     ///
     /// `AllocError` if memory runs out.
     pub fn see(&mut self, name: &[u8]) -> Result<(), AllocError> {
-        let is_near = self.may_be(name.len()) && lacking(self.wanted.as_bytes(), name) <= self.most;
-        if !is_near {
+        if !self.may_be(name) {
             return Ok(());
         }
         let lower = folded(self.alloc, name)?;
@@ -81,20 +84,34 @@ impl Nearest {
     }
 }
 
-// How many letters of a name, in lower case, the wanted one hasn't: it is no fewer edits away.
-fn lacking(wanted: &[u8], name: &[u8]) -> usize {
-    let mut left = [0u16; 256];
-    for byte in wanted {
-        if let Some(count) = left.get_mut(usize::from(*byte)) {
-            *count = count.saturating_add(1);
-        }
-    }
+// How many letters of the second name are not among those of the first one at most so many places away: so many edits
+// or more are between the names, if the edits are no more than the places.
+fn lacking(first: &[u8], second: &[u8], places: usize) -> usize {
     let mut lacking = 0usize;
-    for byte in name {
-        match left.get_mut(usize::from(byte.to_ascii_lowercase())) {
-            Some(count) if *count > 0 => *count = count.saturating_sub(1),
-            _ => lacking = lacking.saturating_add(1),
+    for (at, letter) in second.iter().enumerate() {
+        if !has_near(first, at, places, plain(*letter)) {
+            lacking = lacking.saturating_add(1);
         }
     }
     lacking
+}
+
+// Whether a name has a letter at most so many places away from a place.
+fn has_near(name: &[u8], at: usize, places: usize, letter: u8) -> bool {
+    for place in at.saturating_sub(places)..at.saturating_add(places).saturating_add(1) {
+        if let Some(other) = name.get(place) {
+            if plain(*other) == letter {
+                return true;
+            }
+        }
+    }
+    false
+}
+
+// A letter in lower case, and the dot of a unit's name for what a file's name has in place of it.
+fn plain(letter: u8) -> u8 {
+    match letter {
+        b'-' | b'~' => b'.',
+        _ => letter.to_ascii_lowercase(),
+    }
 }

@@ -3,11 +3,12 @@ use crate::around::files_around;
 use crate::file_names::stem;
 use crate::predefined::predefined_text;
 use crate::said::Said;
-use crate::telling::tell;
+use crate::telling::{Rules, tell};
 use crate::view::View;
 use al_base::{Diagnostic, Files};
 use al_expected::Grammar;
 use al_sketch::Sketch;
+use al_subset::Patterns;
 use std::alloc::{AllocError, Global};
 use std::collections::BTreeMap;
 
@@ -16,8 +17,9 @@ pub struct Notes<'a> {
     alloc: Global,
     texts: &'a Files,
     sketches: BTreeMap<Vec<u8>, Sketch>,
-    /// The rules, once a syntax error was seen.
+    /// The rules and the patterns, once a syntax error was seen.
     grammar: Option<Grammar>,
+    patterns: Option<Patterns>,
 }
 
 impl<'a> Drop for Notes<'a> {
@@ -27,6 +29,7 @@ impl<'a> Drop for Notes<'a> {
             texts: _,
             sketches: _,
             grammar: _,
+            patterns: _,
         } = self;
     }
 }
@@ -39,6 +42,7 @@ impl<'a> Notes<'a> {
             texts,
             sketches: BTreeMap::new(alloc),
             grammar: None,
+            patterns: None,
         }
     }
 
@@ -50,7 +54,7 @@ impl<'a> Notes<'a> {
     pub fn of(&mut self, found: &Diagnostic) -> Result<Vec<Vec<u8>>, AllocError> {
         self.load(found.file.as_slice())?;
         if found.code == 101 {
-            self.load_grammar()?;
+            self.load_rules()?;
         }
         let mut said = Said::new(self.alloc);
         self.say(found, &mut said)?;
@@ -73,7 +77,7 @@ impl<'a> Notes<'a> {
             sketch,
             at: sketch.first_at(found.place.line, found.place.col),
         };
-        tell(&view, self.grammar.as_ref(), found.code, said)
+        tell(&view, self.rules().as_ref(), found.code, said)
     }
 
     // Has the sketch of a file, or of a predefined unit, ready.
@@ -93,12 +97,23 @@ impl<'a> Notes<'a> {
         Ok(())
     }
 
-    // Has the rules ready.
-    fn load_grammar(&mut self) -> Result<(), AllocError> {
+    // Has the rules and the patterns ready.
+    fn load_rules(&mut self) -> Result<(), AllocError> {
         if self.grammar.is_none() {
             self.grammar = Some(Grammar::new(self.alloc)?);
         }
+        if self.patterns.is_none() {
+            self.patterns = Some(Patterns::new(self.alloc)?);
+        }
         Ok(())
+    }
+
+    // The rules and the patterns, if they are ready.
+    fn rules(&self) -> Option<Rules<'_>> {
+        Some(Rules {
+            grammar: self.grammar.as_ref()?,
+            patterns: self.patterns.as_ref()?,
+        })
     }
 
     // Has the sketches of the files ready whose declarations can be seen in a file, and names these.

@@ -104,7 +104,7 @@ fn see_files(view: &View<'_>, nearest: &mut Nearest) -> Result<(), AllocError> {
         return Err(AllocError);
     };
     for (file, _text) in files.iter() {
-        if nearest.may_be(stem(file).len()) {
+        if nearest.may_be(stem(file)) {
             see_file(view, file, nearest)?;
         }
     }

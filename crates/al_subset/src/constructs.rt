@@ -76,7 +76,7 @@ pragma-arguments|a pragma argument that is no name|Elaborate, Elaborate_All and 
 pragma-priority|pragma Priority|the aspect: task T with Priority => 10; or protected P with Priority => 12 is
 pragmas-inside|a pragma among statements or operations|leave it out; a check can be an if statement
 interrupts|an interrupt handler|a task, and a protected object
-instances-for-numbers|an instance of Ada.Text_IO's packages|Ada.Text_IO.Put (Integer'Image (N)); nothing is read
+text-io-instances|an instance of a package of Ada.Text_IO|Ada.Text_IO.Put (T'Image (X)), for a value of the type T; nothing is read
 representation|a representation clause|leave it out; the layout is the compiler's
 attribute-access|the attribute Access|pass the object itself
 incomplete-types|an incomplete type|declare the type whole; there are no access types
