@@ -68,6 +68,7 @@ impl<'a> Notes<'a> {
         let Some(sketch) = self.sketches.get(file) else {
             return Ok(());
         };
+        let rules = rules_of(self.grammar.as_ref(), self.patterns.as_ref());
         let view = View {
             alloc: self.alloc,
             texts: self.texts,
@@ -77,7 +78,7 @@ impl<'a> Notes<'a> {
             sketch,
             at: sketch.first_at(found.place.line, found.place.col),
         };
-        tell(&view, self.rules().as_ref(), found.code, said)
+        tell(&view, rules.as_ref(), found.code, said)
     }
 
     // Has the sketch of a file, or of a predefined unit, ready.
@@ -106,14 +107,6 @@ impl<'a> Notes<'a> {
             self.patterns = Some(Patterns::new(self.alloc)?);
         }
         Ok(())
-    }
-
-    // The rules and the patterns, if they are ready.
-    fn rules(&self) -> Option<Rules<'_>> {
-        Some(Rules {
-            grammar: self.grammar.as_ref()?,
-            patterns: self.patterns.as_ref()?,
-        })
     }
 
     // Has the sketches of the files ready whose declarations can be seen in a file, and names these.
@@ -167,6 +160,14 @@ impl<'a> Notes<'a> {
         }
         Ok(())
     }
+}
+
+// The rules and the patterns, if they are ready.
+fn rules_of<'a>(grammar: Option<&'a Grammar>, patterns: Option<&'a Patterns>) -> Option<Rules<'a>> {
+    Some(Rules {
+        grammar: grammar?,
+        patterns: patterns?,
+    })
 }
 
 /// How many files are read for one diagnostic at most.
