@@ -22,8 +22,8 @@ except ImportError:
 
 TESTS = pathlib.Path(__file__).resolve().parent
 TOP = TESTS.parent
-# Seconds of processor time that notes on 1,000 faulty units may take: 0.1 on a quiet machine, so twice that here.
-MOST = 0.2
+# Seconds of processor time that notes on 1,000 faulty units may take.
+MOST = 0.1
 
 
 def table(file, name):
@@ -149,7 +149,9 @@ def try_many(program, room, count):
     library = main + good + units.replace("Base.Size", "Base.Sise")
     near = "".join(f"-- unit_{n:03}.ads\nwith Unit_{n:03}x;\npackage Unit_{n:03} is\nend Unit_{n:03};\n" for n in range(1000))
     alone = "-- main.adb\nprocedure Main is\nbegin\n   null;\nend Main;\n"
-    texts = {"names": library, "syntax": library.replace("Base.Sise", "Base.Size Base.Size"), "near names": alone + near}
+    types = library.replace("Base.Sise;", "Base.Size;\n   B : Boolean := N;")
+    syntax = library.replace("Base.Sise", "Base.Size Base.Size")
+    texts = {"names": library, "types": types, "syntax": syntax, "near names": alone + near}
     for what, text in texts.items():
         spent = spent_on_notes(program, laid(room, text), what)
         count.check(f"1,000 notes in time, {what}", spent < MOST, spent)

@@ -84,13 +84,16 @@ impl Nearest {
     }
 }
 
-// How many letters of the second name are not among those of the first one at most so many places away: so many edits
-// or more are between the names, if the edits are no more than the places.
+// How many letters of the second name are not among those of the first one at most so many places away, counted to one more than the places:
+// so many edits or more are between the names, if the edits are no more than the places.
 fn lacking(first: &[u8], second: &[u8], places: usize) -> usize {
     let mut lacking = 0usize;
     for (at, letter) in second.iter().enumerate() {
-        if !has_near(first, at, places, plain(*letter)) {
+        if first.get(at) != Some(letter) && !has_near(first, at, places, plain(*letter)) {
             lacking = lacking.saturating_add(1);
+            if lacking > places {
+                break;
+            }
         }
     }
     lacking
