@@ -10,10 +10,10 @@ takes (tests/sarif.json: what SARIF 2.1.0 says of the parts that occur). One wro
 import json
 import pathlib
 import re
+import resource
 import subprocess
 import sys
 import tempfile
-import time
 
 try:
     import jsonschema
@@ -22,6 +22,8 @@ except ImportError:
 
 TESTS = pathlib.Path(__file__).resolve().parent
 TOP = TESTS.parent
+# Seconds of processor time that notes on 1,000 faulty units may take.
+MOST = 0.1
 
 
 def table(file, name):
@@ -144,19 +146,30 @@ def try_many(program, room, count):
     said = run(program, "main", laid(room, main + base + units)).stderr
     count.check("one wrong line", len(said.splitlines()) < 10 and "\n1 error\n1001 units depend on these" in said, said)
     good = base.replace("Intger", "Integer")
-    folder = laid(room, main + good + units.replace("Base.Size", "Base.Sise"))
-    best = {}
-    for words in (("--plain",), ()):
-        times = []
-        for _ in range(5):
-            start = time.monotonic()
-            said = run(program, *words, "main", folder).stderr
-            times.append(time.monotonic() - start)
-        best[words] = min(times)
-    count.check("1,000 notes", said.count("note: ") >= 1000, said)
-    spent = best[()] - best[("--plain",)]
-    print(f"notes of 1,000 faulty units: {1000 * spent:.0f} ms")
-    count.check("1,000 notes in time", spent < 5.0, spent)
+    library = main + good + units.replace("Base.Size", "Base.Sise")
+    near = "".join(f"-- unit_{n:03}.ads\nwith Unit_{n:03}x;\npackage Unit_{n:03} is\nend Unit_{n:03};\n" for n in range(1000))
+    alone = "-- main.adb\nprocedure Main is\nbegin\n   null;\nend Main;\n"
+    types = library.replace("Base.Sise;", "Base.Size;\n   B : Boolean := N;")
+    syntax = library.replace("Base.Sise", "Base.Size Base.Size")
+    texts = {"names": library, "types": types, "syntax": syntax, "near names": alone + near}
+    for what, text in texts.items():
+        spent = spent_on_notes(program, laid(room, text), what)
+        count.check(f"1,000 notes in time, {what}", spent < MOST, spent)
+
+
+def processor_time(program, *words):
+    before = resource.getrusage(resource.RUSAGE_CHILDREN)
+    said = run(program, *words).stderr
+    after = resource.getrusage(resource.RUSAGE_CHILDREN)
+    return after.ru_utime + after.ru_stime - before.ru_utime - before.ru_stime, said
+
+
+def spent_on_notes(program, folder, what):
+    """Seconds of processor time that notes on 1,000 faulty units take, the least of three runs against the least without notes."""
+    plain = min(processor_time(program, "--all", "--plain", "main", folder)[0] for _ in range(3))
+    noted, said = min((processor_time(program, "--all", "main", folder) for _ in range(3)), key=lambda it: it[0])
+    print(f"notes of 1,000 faulty units, {what}: {1000 * (noted - plain):.0f} ms")
+    return noted - plain if said.count("note: ") >= 1000 else float("inf")
 
 
 def first_messages(text):

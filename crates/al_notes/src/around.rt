@@ -35,21 +35,32 @@ fn add_above(
     file: &[u8],
     names: &mut Vec<Vec<u8>>,
 ) -> Result<(), AllocError> {
-    let mut unit = unit_of_file(alloc, file)?;
-    let mut is_own = true;
+    let unit = unit_of_file(alloc, file)?;
+    let mut above = Some(unit.as_slice());
     for _above in 0..32 {
-        let spec = declaration_file(alloc, unit.as_slice())?;
-        if texts.get(spec.as_slice()).is_some() {
-            names.push(spec)?;
-        } else if !is_own && is_body_file(file) {
-            names.push(body_file(alloc, unit.as_slice())?)?;
-        }
-        is_own = false;
-        let parent = match parent_of(unit.as_slice()) {
-            Some(parent) => Vec::from_slice(alloc, parent)?,
-            None => break,
+        let Some(name) = above else {
+            break;
         };
-        unit = parent;
+        let may_be_body = name.len() < unit.len() && is_body_file(file);
+        add_file(alloc, texts, name, may_be_body, names)?;
+        above = parent_of(name);
+    }
+    Ok(())
+}
+
+// Adds the file of a unit's declaration, if there is one, or else that of its body where that may be.
+fn add_file(
+    alloc: Global,
+    texts: &Files,
+    unit: &[u8],
+    may_be_body: bool,
+    names: &mut Vec<Vec<u8>>,
+) -> Result<(), AllocError> {
+    let spec = declaration_file(alloc, unit)?;
+    if texts.get(spec.as_slice()).is_some() {
+        names.push(spec)?;
+    } else if may_be_body {
+        names.push(body_file(alloc, unit)?)?;
     }
     Ok(())
 }
@@ -79,13 +90,7 @@ fn add_unit(
         names.push(lower)?;
         return Ok(());
     }
-    let spec = declaration_file(alloc, unit)?;
-    if texts.get(spec.as_slice()).is_some() {
-        names.push(spec)?;
-    } else {
-        names.push(body_file(alloc, unit)?)?;
-    }
-    Ok(())
+    add_file(alloc, texts, unit, true, names)
 }
 
 /// The files that a file needs by its context clause and by its name: its declaration, those above it, and those that are named.

@@ -1,6 +1,7 @@
 // E101: what isn't in the subset, and what is possible there.
 use crate::note;
-use crate::said::{Said, digits, say_outside};
+use crate::said::{Said, say_outside};
+use crate::telling::Rules;
 use crate::view::View;
 use al_expected::{Grammar, Wanted, phrase, wanted_at};
 use al_sketch::{ScopeKind, Sketch};
@@ -12,15 +13,22 @@ use std::alloc::AllocError;
 /// # Errors
 ///
 /// `AllocError` if memory runs out.
-pub fn syntax(view: &View<'_>, said: &mut Said) -> Result<(), AllocError> {
+pub fn syntax(
+    view: &View<'_>,
+    rules: Option<&Rules<'_>>,
+    said: &mut Said,
+) -> Result<(), AllocError> {
+    let Some(rules) = rules else {
+        return Ok(());
+    };
     let fault = view.at;
-    if let Some(mistake) = mistake_at(view.sketch, fault) {
+    if let Some(mistake) = mistake_at(rules.patterns, view.sketch, fault) {
         note!(said; mistake.as_bytes())?;
-    } else if let Some(construct) = construct_at(view.sketch, fault) {
+    } else if let Some(construct) = construct_at(rules.patterns, view.sketch, fault) {
         say_outside(construct.name.as_bytes(), said)?;
         note!(said; b"instead: ", construct.instead.as_bytes())?;
     }
-    expected(view, view.grammar, said)
+    expected(view, rules.grammar, said)
 }
 
 fn expected(view: &View<'_>, grammar: &Grammar, said: &mut Said) -> Result<(), AllocError> {
@@ -50,12 +58,14 @@ fn tell_open(view: &View<'_>, said: &mut Said) -> Result<(), AllocError> {
     let Some(scope) = view.sketch.scope(view.sketch.scope_at(end)) else {
         return Ok(());
     };
-    let word = view.sketch.word(scope.start);
-    let line = digits(view.alloc, view.sketch.line(scope.start) as usize)?;
-    if scope.kind == ScopeKind::Block || scope.kind == ScopeKind::Record {
-        return note!(said; b"this ends the ", word, b" of line ", line.as_bytes(), b", which is still open here");
+    if !matches!(scope.kind, ScopeKind::Block | ScopeKind::Record) {
+        return Ok(());
     }
-    Ok(())
+    said.add(b"this ends the ");
+    said.add(view.sketch.word(scope.start));
+    said.add(b" of line ");
+    said.add_number(view.sketch.line(scope.start) as usize);
+    note!(said; b", which is still open here")
 }
 
 // The rules go on there: so it is the nesting that has no room.
@@ -94,9 +104,8 @@ fn is_possible(grammar: &Grammar, wanted: &Wanted, word: &str) -> bool {
 }
 
 fn say_before(view: &View<'_>, word: &str, said: &mut Said) -> Result<(), AllocError> {
-    let line = digits(
-        view.alloc,
-        view.sketch.line(view.at.saturating_sub(1)) as usize,
-    )?;
-    note!(said; word.as_bytes(), b" is wanted at the end of line ", line.as_bytes())
+    said.add(word.as_bytes());
+    said.add(b" is wanted at the end of line ");
+    said.add_number(view.sketch.line(view.at.saturating_sub(1)) as usize);
+    said.end()
 }

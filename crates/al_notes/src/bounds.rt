@@ -3,7 +3,7 @@ use crate::note;
 use crate::said::Said;
 use crate::types::named_by_mark;
 use crate::view::{Found, View};
-use crate::visible::meant;
+use crate::visible::first_meant;
 use al_sketch::DeclaredKind;
 use std::alloc::AllocError;
 
@@ -13,16 +13,17 @@ use std::alloc::AllocError;
 ///
 /// `AllocError` if memory runs out.
 pub fn not_static(view: &View<'_>, said: &mut Said) -> Result<(), AllocError> {
-    let named = meant(view, view.word())?;
-    if let Some(found) = named.first() {
-        let place = found.place(view.alloc)?;
+    if let Some(found) = first_meant(view, view.word())? {
         let what: &[u8] = match found.declared.kind {
             DeclaredKind::Function => b" is a function, declared ",
             DeclaredKind::Constant => b" is a constant whose value isn't static, declared ",
             DeclaredKind::Object | DeclaredKind::Formal => b" is a variable, declared ",
             _ => b" is declared ",
         };
-        note!(said; found.name(), what, place.as_slice())?;
+        said.add(found.name());
+        said.add(what);
+        found.add_place(said);
+        said.end()?;
     }
     note!(said; b"static are literals, named numbers, constants with a static value, attributes of static subtypes, and predefined operators of them (ARM 4.9)")
 }
@@ -43,7 +44,7 @@ pub fn out_of_limits(view: &View<'_>, said: &mut Said) -> Result<(), AllocError>
         }
     }
     if let Some(parent) = parent_of_range(view)? {
-        return tell_bounds(view, &parent, said);
+        return tell_bounds(&parent, said);
     }
     note!(said; b"a value of an object has at most 4096 words, 8 bytes each; bounds of integer types go from -2 ** 63 to 2 ** 63 - 1")
 }
@@ -93,13 +94,15 @@ fn range_in(found: &Found<'_>) -> Option<usize> {
     None
 }
 
-fn tell_bounds(view: &View<'_>, parent: &Found<'_>, said: &mut Said) -> Result<(), AllocError> {
-    let spot = parent.spot(view.alloc)?;
+fn tell_bounds(parent: &Found<'_>, said: &mut Said) -> Result<(), AllocError> {
     let Some(range) = range_in(parent) else {
         return Ok(());
     };
     let bounds = parent
         .sketch
         .words(range.saturating_add(1), parent.declared.end);
-    note!(said; parent.name(), b" (", spot.as_slice(), b") has the bounds ", bounds)
+    said.add(parent.name());
+    said.add(b" (");
+    parent.add_spot(said);
+    note!(said; b") has the bounds ", bounds)
 }

@@ -1,7 +1,7 @@
 // Calls: the candidates, and which parameter doesn't fit.
 use crate::names::head_of;
 use crate::note;
-use crate::said::{Said, digits};
+use crate::said::Said;
 use crate::types::{Kind, mark_type, type_of_expression};
 use crate::view::{Found, View};
 use al_sketch::{DeclaredKind, Sketch};
@@ -93,13 +93,13 @@ fn tell_candidate<'a>(
 ) -> Result<(), AllocError> {
     let formals = formals_of(view, found)?;
     if formals.len() != arguments.len() {
-        return tell_count(view, found, formals.len(), arguments.len(), said);
+        return tell_count(found, formals.len(), arguments.len(), said);
     }
     for (formal, argument) in formals.iter().zip(arguments.iter()) {
         let wanted = formal_kind(view, formal)?;
         let given = type_of_expression(view, argument.0, argument.1)?;
         if given.differs(&wanted) {
-            return tell_formal(view, found, formal, wanted, given, said);
+            return tell_formal(found, formal, wanted, given, said);
         }
     }
     Ok(())
@@ -113,36 +113,36 @@ fn formal_kind<'a>(view: &View<'a>, formal: &Found<'a>) -> Result<Kind<'a>, Allo
 }
 
 fn tell_count(
-    view: &View<'_>,
     found: &Found<'_>,
     wanted: usize,
     given: usize,
     said: &mut Said,
 ) -> Result<(), AllocError> {
-    let place = found.spot(view.alloc)?;
-    let wanted = digits(view.alloc, wanted)?;
-    let given = digits(view.alloc, given)?;
-    let name = found.name();
-    note!(said; name, b" (", place.as_slice(), b"): parameters wanted: ", wanted.as_bytes(), b", found: ", given.as_bytes())
+    said.add(found.name());
+    said.add(b" (");
+    found.add_spot(said);
+    said.add(b"): parameters wanted: ");
+    said.add_number(wanted);
+    said.add(b", found: ");
+    said.add_number(given);
+    said.end()
 }
 
 fn tell_formal<'a>(
-    view: &View<'a>,
     found: &Found<'a>,
     formal: &Found<'a>,
     wanted: Kind<'a>,
     given: Kind<'a>,
     said: &mut Said,
 ) -> Result<(), AllocError> {
-    let place = found.spot(view.alloc)?;
     let name = found.name();
-    note!(said; b"parameter ",
-        formal.name(),
-        b" of ",
-        name,
-        b" (",
-        place.as_slice(),
-        b"): wanted ",
+    said.add(b"parameter ");
+    said.add(formal.name());
+    said.add(b" of ");
+    said.add(name);
+    said.add(b" (");
+    found.add_spot(said);
+    note!(said; b"): wanted ",
         wanted.name(),
         b", found ",
         given.name())?;
@@ -177,22 +177,25 @@ fn tell_candidates(view: &View<'_>, index: usize, said: &mut Said) -> Result<(),
     let (some, _behind) = head_of(view, index)?;
     if some.len() > 1 {
         for found in some.iter() {
-            tell_place(view, found, said)?;
+            tell_place(found, said)?;
         }
     }
     Ok(())
 }
 
-fn tell_place(view: &View<'_>, found: &Found<'_>, said: &mut Said) -> Result<(), AllocError> {
+fn tell_place(found: &Found<'_>, said: &mut Said) -> Result<(), AllocError> {
     if said.lines.len() >= 4 {
         return Ok(());
     }
-    let place = found.spot(view.alloc)?;
-    let text = specification(found.sketch, found);
+    said.add(b"candidate ");
+    said.add(specification(found.sketch, found));
     if found.declared.kind == DeclaredKind::Literal {
-        return note!(said; b"candidate ", text, b" of ", found.mark(), b" (", place.as_slice(), b")");
+        said.add(b" of ");
+        said.add(found.mark());
     }
-    note!(said; b"candidate ", text, b" (", place.as_slice(), b")")
+    said.add(b" (");
+    found.add_spot(said);
+    note!(said; b")")
 }
 
 // A declaration's words up to its end, if they are on one line.

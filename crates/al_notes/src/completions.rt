@@ -1,7 +1,7 @@
 // E301 to E303: declarations and what completes them.
 use crate::file_names::{body_file, is_body_file};
 use crate::note;
-use crate::said::{Said, digits};
+use crate::said::Said;
 use crate::view::{Found, View};
 use al_sketch::{Declared, DeclaredKind, ScopeKind, Sketch};
 use std::alloc::AllocError;
@@ -17,14 +17,10 @@ pub fn duplicate(view: &View<'_>, said: &mut Said) -> Result<(), AllocError> {
     };
     for found in view.all_named(view.word())?.iter() {
         if is_other(view, &own, found) {
-            let place = found.place(view.alloc)?;
-            let what = what_is(found.declared.kind);
-            let name = found.name();
-            note!(said; name,
-                b" is declared ",
-                place.as_slice(),
-                b" too, as ",
-                what)?;
+            said.add(found.name());
+            said.add(b" is declared ");
+            found.add_place(said);
+            note!(said; b" too, as ", what_is(found.declared.kind))?;
             return tell_overloading(found, said);
         }
     }
@@ -121,7 +117,7 @@ fn say_missing(
                 sketch,
                 declared: *declared,
             };
-            say_without_body(view, &found, said)?;
+            say_without_body(&found, said)?;
         }
     }
     Ok(())
@@ -131,13 +127,13 @@ fn lacks_body(view: &View<'_>, sketch: &Sketch, declared: &Declared, scope: usiz
     needs_body(sketch, declared) && !has_body(view, sketch, declared, scope)
 }
 
-fn say_without_body(view: &View<'_>, found: &Found<'_>, said: &mut Said) -> Result<(), AllocError> {
-    let place = found.place(view.alloc)?;
-    note!(said; found.name(),
-        b" has no body: it is ",
-        what_is(found.declared.kind),
-        b", declared ",
-        place.as_slice())
+fn say_without_body(found: &Found<'_>, said: &mut Said) -> Result<(), AllocError> {
+    said.add(found.name());
+    said.add(b" has no body: it is ");
+    said.add(what_is(found.declared.kind));
+    said.add(b", declared ");
+    found.add_place(said);
+    said.end()
 }
 
 // The scope whose part ends at the place.
@@ -202,24 +198,17 @@ pub fn not_conformant(view: &View<'_>, said: &mut Said) -> Result<(), AllocError
         if is_same || (found.file == view.file && found.declared.is_body) {
             continue;
         }
-        let place = found.place(view.alloc)?;
-        note!(said; found.name(),
-            b" is declared ",
-            place.as_slice(),
-            b", as ",
-            what_is(found.declared.kind))?;
-        return differs(view, &own, found, said);
+        said.add(found.name());
+        said.add(b" is declared ");
+        found.add_place(said);
+        note!(said; b", as ", what_is(found.declared.kind))?;
+        return differs(&own, found, said);
     }
     Ok(())
 }
 
 // What differs between two specifications.
-fn differs(
-    view: &View<'_>,
-    own: &Found<'_>,
-    other: &Found<'_>,
-    said: &mut Said,
-) -> Result<(), AllocError> {
+fn differs(own: &Found<'_>, other: &Found<'_>, said: &mut Said) -> Result<(), AllocError> {
     let there = formals_text(other);
     let here = formals_text(own);
     if own.declared.kind != other.declared.kind {
@@ -234,9 +223,11 @@ fn differs(
     let (first, last) = differing(own, other);
     if first < own.declared.formals.1 || last < other.declared.formals.1 {
         note!(said; b"there it is ", there, b"; here ", here)?;
-        let line = digits(view.alloc, own.sketch.line(first) as usize)?;
-        let here = own.sketch.word(first);
-        note!(said; b"they differ at ", here, b", on line ", line.as_bytes())?;
+        said.add(b"they differ at ");
+        said.add(own.sketch.word(first));
+        said.add(b", on line ");
+        said.add_number(own.sketch.line(first) as usize);
+        said.end()?;
     }
     note!(said; b"names, modes and subtypes are repeated as they are (ARM 6.3.1)")
 }

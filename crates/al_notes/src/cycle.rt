@@ -11,10 +11,15 @@ use std::alloc::AllocError;
 const MOST: usize = 200;
 
 // A unit's declaration on the way, and the one that led to it.
-#[derive(Drop)]
 struct Step {
     file: Vec<u8>,
     from: usize,
+}
+
+impl Drop for Step {
+    fn drop(self) {
+        let Step { file: _, from: _ } = self;
+    }
 }
 
 /// Tells the units of a cycle one by one, as far as declarations make it.
@@ -65,19 +70,40 @@ fn is_among(steps: &[Step], file: &[u8]) -> bool {
 // The declarations that a file's context clause names, and its parent's.
 fn named_by(view: &View<'_>, file: &[u8]) -> Result<Vec<Vec<u8>>, AllocError> {
     let mut named = Vec::new(view.alloc);
-    let Some(text) = view.texts.get(file) else {
-        return Ok(named);
-    };
-    let sketch = Sketch::of(view.alloc, text)?;
-    for (from, to) in withs_of(view.alloc, &sketch)?.iter() {
-        let other = declaration_file(view.alloc, sketch.words(*from, *to))?;
-        named.push(other)?;
-    }
-    let unit = unit_of_file(view.alloc, file)?;
-    if let Some(parent) = parent_of(unit.as_slice()) {
-        named.push(declaration_file(view.alloc, parent)?)?;
+    if let Some(text) = view.texts.get(file) {
+        add_withs(view, text, &mut named)?;
+        add_parent(view, file, &mut named)?;
     }
     Ok(named)
+}
+
+// Adds the declarations that a source's context clause names.
+fn add_withs(view: &View<'_>, text: &[u8], named: &mut Vec<Vec<u8>>) -> Result<(), AllocError> {
+    let sketch = Sketch::of(view.alloc, text)?;
+    let withs = withs_of(view.alloc, &sketch)?;
+    for (from, to) in withs.iter() {
+        add_declaration(view, sketch.words(*from, *to), named)?;
+    }
+    Ok(())
+}
+
+// Adds the declaration of the parent of a file's unit.
+fn add_parent(view: &View<'_>, file: &[u8], named: &mut Vec<Vec<u8>>) -> Result<(), AllocError> {
+    let unit = unit_of_file(view.alloc, file)?;
+    match parent_of(unit.as_slice()) {
+        Some(parent) => add_declaration(view, parent, named),
+        None => Ok(()),
+    }
+}
+
+fn add_declaration(
+    view: &View<'_>,
+    unit: &[u8],
+    named: &mut Vec<Vec<u8>>,
+) -> Result<(), AllocError> {
+    let file = declaration_file(view.alloc, unit)?;
+    named.push(file)?;
+    Ok(())
 }
 
 // Tells the way from the first step to this one, and back.

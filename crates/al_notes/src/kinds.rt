@@ -2,9 +2,9 @@
 use crate::completions::{named_scope, what_is};
 use crate::note;
 use crate::operands::check_attributes;
-use crate::said::{Said, digits};
-use crate::view::View;
-use crate::visible::meant;
+use crate::said::Said;
+use crate::view::{Found, View};
+use crate::visible::first_meant;
 use al_sketch::{DeclaredKind, LexemeKind};
 use std::alloc::AllocError;
 
@@ -42,12 +42,11 @@ fn end_name(view: &View<'_>, said: &mut Said) -> Result<(), AllocError> {
     let Some(name) = named_scope(view) else {
         return Ok(());
     };
-    let line = digits(view.alloc, view.sketch.line(name) as usize)?;
-    let word = view.sketch.word(name);
-    note!(said; b"this ends ",
-        word,
-        b", which begins on line ",
-        line.as_bytes())
+    said.add(b"this ends ");
+    said.add(view.sketch.word(name));
+    said.add(b", which begins on line ");
+    said.add_number(view.sketch.line(name) as usize);
+    said.end()
 }
 
 /// What the name denotes.
@@ -78,8 +77,7 @@ fn tell_attribute(view: &View<'_>, last: usize, said: &mut Said) -> Result<(), A
     check_attributes(view, mark, designator, said)?;
     let is_image = view.sketch.is(mark, b"'") && view.sketch.is(designator, b"image");
     if said.lines.is_empty() && is_image {
-        let named = meant(view, view.sketch.word(last))?;
-        if let Some(found) = named.first() {
+        if let Some(found) = first_meant(view, view.sketch.word(last))? {
             return note!(said; b"Image is an attribute of types here: ", found.mark(), b"'Image (", found.name(), b")");
         }
     }
@@ -97,17 +95,21 @@ fn tell_wanted(view: &View<'_>, said: &mut Said) -> Result<(), AllocError> {
 }
 
 fn tell_kind(view: &View<'_>, at: usize, said: &mut Said) -> Result<bool, AllocError> {
-    let named = meant(view, view.sketch.word(at))?;
-    let Some(found) = named.first() else {
+    let Some(found) = first_meant(view, view.sketch.word(at))? else {
         return Ok(false);
     };
-    let place = found.place(view.alloc)?;
-    note!(said; found.name(),
-        b" is ",
-        what_is(found.declared.kind),
-        b", declared ",
-        place.as_slice())?;
+    say_is(&found, what_is(found.declared.kind), said)?;
     Ok(true)
+}
+
+// Says what a declaration is, and where.
+fn say_is(found: &Found<'_>, what: &[u8], said: &mut Said) -> Result<(), AllocError> {
+    said.add(found.name());
+    said.add(b" is ");
+    said.add(what);
+    said.add(b", declared ");
+    found.add_place(said);
+    said.end()
 }
 
 /// Why a static expression has no value.
@@ -125,21 +127,15 @@ pub fn static_failure(said: &mut Said) -> Result<(), AllocError> {
 ///
 /// `AllocError` if memory runs out.
 pub fn not_a_variable(view: &View<'_>, said: &mut Said) -> Result<(), AllocError> {
-    let named = meant(view, view.word())?;
-    let Some(found) = named.first() else {
+    let Some(found) = first_meant(view, view.word())? else {
         return note!(said; b"an expression is no variable: assign it to one first");
     };
-    let place = found.place(view.alloc)?;
     let what: &[u8] = match found.declared.kind {
         DeclaredKind::Formal => b"a parameter of mode in",
         DeclaredKind::Component => b"a component, which a protected function may only read",
         other => what_is(other),
     };
-    note!(said; found.name(),
-        b" is ",
-        what,
-        b", declared ",
-        place.as_slice())?;
+    say_is(&found, what, said)?;
     if found.declared.kind == DeclaredKind::Formal {
         return note!(said; b"for a value that goes out: ",
             found.name(),

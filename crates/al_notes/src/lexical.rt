@@ -1,6 +1,6 @@
 // E001 to E006: lexemes that are none.
 use crate::note;
-use crate::said::{Said, digits, say_outside};
+use crate::said::{Said, say_outside};
 use crate::view::View;
 use al_sketch::LexemeKind;
 use al_subset::construct_of;
@@ -101,8 +101,7 @@ fn is_plain(word: &[u8]) -> bool {
 }
 
 fn too_long(view: &View<'_>, said: &mut Said) -> Result<(), AllocError> {
-    let length = digits(view.alloc, view.word().len())?;
-    note!(said; b"it has ",
-        length.as_bytes(),
-        b" characters, and may have 200")
+    said.add(b"it has ");
+    said.add_number(view.word().len());
+    note!(said; b" characters, and may have 200")
 }

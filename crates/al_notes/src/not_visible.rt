@@ -86,43 +86,70 @@ pub fn tell_unknown(name: &[u8], instead: &str, said: &mut Said) -> Result<(), A
 // Says why a declaration isn't visible; whether there was something to say.
 fn tell_way(view: &View<'_>, found: &Found<'_>, said: &mut Said) -> Result<bool, AllocError> {
     let way = way_of(view, found)?;
-    let place = found.place(view.alloc)?;
-    let name = found.name();
-    let at = place.as_slice();
-    match way {
-        Way::Selected => {
-            let of = found.unit();
-            note!(said; name,
-                b" is declared ",
-                at,
-                b": write ",
-                of,
-                b".",
-                name,
-                b", or use ",
-                of,
-                b";")?;
-        }
-        Way::Private => {
-            note!(said; name, b" is declared ", at, b", in a private part")?;
-        }
-        Way::Later => note!(said; name, b" is declared later, ", at)?,
-        Way::Inner if found.declared.kind == DeclaredKind::Component => {
-            note!(said; name,
-                b" is a component, declared ",
-                at,
-                b": write OBJECT.",
-                name)?;
-        }
-        Way::Inner if found.file == view.file => {
-            note!(said; name,
-                b" is declared ",
-                at,
-                b", inside what ends before this place")?;
-        }
-        _ => return Ok(false),
+    if !say_way(view, found, way, said) {
+        return Ok(false);
     }
+    said.end()?;
     Ok(true)
+}
+
+// Goes on with why a declaration isn't visible; whether there is something to say.
+fn say_way(view: &View<'_>, found: &Found<'_>, way: Way, said: &mut Said) -> bool {
+    match way {
+        Way::Selected => say_selected(found, said),
+        Way::Private => {
+            say_place(found, said);
+            said.add(b", in a private part");
+        }
+        Way::Later => say_later(found, said),
+        Way::Inner => return say_inner(view, found, said),
+        _ => return false,
+    }
+    true
+}
+
+// Goes on with a declaration's name and its place.
+fn say_place(found: &Found<'_>, said: &mut Said) {
+    said.add(found.name());
+    said.add(b" is declared ");
+    found.add_place(said);
+}
+
+// Goes on with how to name what is visible by its unit's name.
+fn say_selected(found: &Found<'_>, said: &mut Said) {
+    let of = found.unit();
+    say_place(found, said);
+    said.add(b": write ");
+    said.add(of);
+    said.add(b".");
+    said.add(found.name());
+    said.add(b", or use ");
+    said.add(of);
+    said.add(b";");
+}
+
+fn say_later(found: &Found<'_>, said: &mut Said) {
+    said.add(found.name());
+    said.add(b" is declared later, ");
+    found.add_place(said);
+}
+
+// Goes on with how a component is named, or with what a declaration is inside of; whether there is something to say.
+fn say_inner(view: &View<'_>, found: &Found<'_>, said: &mut Said) -> bool {
+    if found.declared.kind == DeclaredKind::Component {
+        said.add(found.name());
+        said.add(b" is a component, declared ");
+        found.add_place(said);
+        said.add(b": write OBJECT.");
+        said.add(found.name());
+        return true;
+    }
+    if found.file == view.file {
+        say_place(found, said);
+        said.add(b", inside what ends before this place");
+        return true;
+    }
+    false
 }
 
 // Says that a unit of the name is there and isn't named by a with clause; whether one is.
@@ -211,11 +238,8 @@ fn not_in_prefix(view: &View<'_>, said: &mut Said) -> Result<(), AllocError> {
 fn say_private(view: &View<'_>, unit: &[u8], said: &mut Said) -> Result<(), AllocError> {
     for found in declared_in(view, unit, view.word())?.iter() {
         if found.sketch.is_private(&found.declared) {
-            let place = found.place(view.alloc)?;
-            return note!(said; found.name(),
-                b" is declared ",
-                place.as_slice(),
-                b", in the private part");
+            say_place(found, said);
+            return note!(said; b", in the private part");
         }
     }
     Ok(())

@@ -3,37 +3,47 @@ use crate::around::files_around;
 use crate::file_names::stem;
 use crate::predefined::predefined_text;
 use crate::said::Said;
-use crate::telling::tell;
+use crate::telling::{Rules, tell};
 use crate::view::View;
 use al_base::{Diagnostic, Files};
 use al_expected::Grammar;
 use al_sketch::Sketch;
+use al_subset::Patterns;
 use std::alloc::{AllocError, Global};
 use std::collections::BTreeMap;
 
 /// Makes notes on diagnostics of some files.
-#[derive(Drop)]
 pub struct Notes<'a> {
     alloc: Global,
     texts: &'a Files,
     sketches: BTreeMap<Vec<u8>, Sketch>,
-    grammar: Grammar,
+    /// The rules and the patterns, once a syntax error was seen.
+    grammar: Option<Grammar>,
+    patterns: Option<Patterns>,
+}
+
+impl<'a> Drop for Notes<'a> {
+    fn drop(self) {
+        let Notes {
+            alloc: _,
+            texts: _,
+            sketches: _,
+            grammar: _,
+            patterns: _,
+        } = self;
+    }
 }
 
 impl<'a> Notes<'a> {
-    /// Notes on diagnostics of these files.
-    ///
-    /// # Errors
-    ///
-    /// If out of memory.
-    pub fn over(alloc: Global, texts: &'a Files) -> Result<Notes<'a>, AllocError> {
-        let grammar = Grammar::new(alloc)?;
-        Ok(Notes {
+    /// Notes on diagnostics of these files. It takes no memory.
+    pub fn over(alloc: Global, texts: &'a Files) -> Notes<'a> {
+        Notes {
             alloc,
             texts,
             sketches: BTreeMap::new(alloc),
-            grammar,
-        })
+            grammar: None,
+            patterns: None,
+        }
     }
 
     /// What is said of a diagnostic, a line each, without its `note: `.
@@ -42,24 +52,33 @@ impl<'a> Notes<'a> {
     ///
     /// If out of memory.
     pub fn of(&mut self, found: &Diagnostic) -> Result<Vec<Vec<u8>>, AllocError> {
-        let file = found.file.as_slice();
-        self.load(file)?;
-        let around = self.load_around(file, found.code)?;
-        let mut said = Said::new(self.alloc);
-        if let Some(sketch) = self.sketches.get(file) {
-            let view = View {
-                alloc: self.alloc,
-                texts: self.texts,
-                sketches: &self.sketches,
-                around: around.as_slice(),
-                file,
-                sketch,
-                at: sketch.first_at(found.place.line, found.place.col),
-                grammar: &self.grammar,
-            };
-            tell(&view, found.code, &mut said)?;
+        self.load(found.file.as_slice())?;
+        if found.code == 101 {
+            self.load_rules()?;
         }
-        Ok(said.lines)
+        let mut said = Said::new(self.alloc);
+        self.say(found, &mut said)?;
+        Ok(said.into_lines())
+    }
+
+    // Says what there is to say of a diagnostic, whose file's sketch is ready.
+    fn say(&mut self, found: &Diagnostic, said: &mut Said) -> Result<(), AllocError> {
+        let file = found.file.as_slice();
+        let around = self.load_around(file, found.code)?;
+        let Some(sketch) = self.sketches.get(file) else {
+            return Ok(());
+        };
+        let rules = rules_of(self.grammar.as_ref(), self.patterns.as_ref());
+        let view = View {
+            alloc: self.alloc,
+            texts: self.texts,
+            sketches: &self.sketches,
+            around: around.as_slice(),
+            file,
+            sketch,
+            at: sketch.first_at(found.place.line, found.place.col),
+        };
+        tell(&view, rules.as_ref(), found.code, said)
     }
 
     // Has the sketch of a file, or of a predefined unit, ready.
@@ -79,6 +98,17 @@ impl<'a> Notes<'a> {
         Ok(())
     }
 
+    // Has the rules and the patterns ready.
+    fn load_rules(&mut self) -> Result<(), AllocError> {
+        if self.grammar.is_none() {
+            self.grammar = Some(Grammar::new(self.alloc)?);
+        }
+        if self.patterns.is_none() {
+            self.patterns = Some(Patterns::new(self.alloc)?);
+        }
+        Ok(())
+    }
+
     // Has the sketches of the files ready whose declarations can be seen in a file, and names these.
     fn load_around(&mut self, file: &[u8], code: u16) -> Result<Vec<Vec<u8>>, AllocError> {
         let mut around = Vec::new(self.alloc);
@@ -87,16 +117,29 @@ impl<'a> Notes<'a> {
             return Ok(around);
         }
         for number in 0..MOST_AROUND {
-            let Some(name) = around.get(number) else {
+            if !self.load_one(file, number, &mut around)? {
                 break;
-            };
-            let name = Vec::from_slice(self.alloc, name.as_slice())?;
-            self.load(name.as_slice())?;
-            if number == 0 || is_above(name.as_slice(), file) {
-                self.add_around(name.as_slice(), number == 0, &mut around)?;
             }
         }
         Ok(around)
+    }
+
+    // Has the sketch of one of those files ready, and adds those that it names; whether it is there.
+    fn load_one(
+        &mut self,
+        file: &[u8],
+        number: usize,
+        around: &mut Vec<Vec<u8>>,
+    ) -> Result<bool, AllocError> {
+        let Some(name) = around.get(number) else {
+            return Ok(false);
+        };
+        let name = Vec::from_slice(self.alloc, name.as_slice())?;
+        self.load(name.as_slice())?;
+        if number == 0 || is_above(name.as_slice(), file) {
+            self.add_around(name.as_slice(), number == 0, around)?;
+        }
+        Ok(true)
     }
 
     // Adds what is named in a file of those around; of the first one, of its declaration and of what is above it.
@@ -117,6 +160,14 @@ impl<'a> Notes<'a> {
         }
         Ok(())
     }
+}
+
+// The rules and the patterns, if they are ready.
+fn rules_of<'a>(grammar: Option<&'a Grammar>, patterns: Option<&'a Patterns>) -> Option<Rules<'a>> {
+    Some(Rules {
+        grammar: grammar?,
+        patterns: patterns?,
+    })
 }
 
 /// How many files are read for one diagnostic at most.

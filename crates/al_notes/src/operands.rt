@@ -141,7 +141,7 @@ fn tell_operator<'a>(
         return tell_joined(left, right, said);
     }
     if is_time(&left) || is_time(&right) {
-        return Ok(());
+        return tell_time(word, said);
     }
     let is_text = matches!(left, Kind::Text) || matches!(right, Kind::Text);
     if is_text && word == b"+".as_slice() {
@@ -164,7 +164,15 @@ fn tell_operator<'a>(
     Ok(())
 }
 
-// Whether a type is one of Ada.Real_Time's, which have operators of two types.
+// Says which operator the types of Ada.Real_Time have.
+fn tell_time(word: &[u8], said: &mut Said) -> Result<(), AllocError> {
+    if word == b"+".as_slice() {
+        return Ok(());
+    }
+    note!(said; b"the types of Ada.Real_Time have no ", word, b" here: their one operator is Time + Time_Span")
+}
+
+// Whether a type is one of Ada.Real_Time's.
 fn is_time(kind: &Kind<'_>) -> bool {
     match kind {
         Kind::Of(found) => found.file == b"ada.real_time".as_slice(),

@@ -12,11 +12,6 @@ use std::alloc::AllocError;
 /// `AllocError` if memory runs out.
 pub fn bad_pragma(view: &View<'_>, said: &mut Said) -> Result<(), AllocError> {
     let name = view.word();
-    if holds_anyway(view) {
-        let argument = view.sketch.word(view.at.saturating_add(2));
-        note!(said; name, b" (", argument, b") is what holds anyway: tasks and protected objects are those of the Ravenscar profile, with priorities and ceilings; leave the pragma out")?;
-        return there_are(said);
-    }
     if name.eq_ignore_ascii_case(b"elaborate") || name.eq_ignore_ascii_case(b"elaborate_all") {
         return note!(said; name,
             b" belongs in a context clause, after the with clause of the units that it names: with P; pragma ",
@@ -26,24 +21,34 @@ pub fn bad_pragma(view: &View<'_>, said: &mut Said) -> Result<(), AllocError> {
     if name.eq_ignore_ascii_case(b"elaborate_body") {
         return note!(said; b"Elaborate_Body belongs in a package's declaration, without an argument or with the package's name");
     }
-    if is_of_ada(name) {
-        note!(said; b"pragma ",
-            name,
-            b" isn't in this subset of Ada (docs/language.md#what-there-is): leave it out")?;
-        return there_are(said);
-    }
-    let mut nearest = Nearest::to(view.alloc, name)?;
-    nearest.see(b"Elaborate")?;
-    nearest.see(b"Elaborate_All")?;
-    nearest.see(b"Elaborate_Body")?;
-    if let Some(other) = &nearest.name {
-        note!(said; b"did you mean ", other.as_slice(), b"?")?;
-    }
-    there_are(said)
+    say_other(view, name, said)?;
+    note!(said; b"the pragmas are Elaborate and Elaborate_All in context clauses, and Elaborate_Body in a package's declaration")
 }
 
-fn there_are(said: &mut Said) -> Result<(), AllocError> {
-    note!(said; b"the pragmas are Elaborate and Elaborate_All in context clauses, and Elaborate_Body in a package's declaration")
+// Says of another pragma that what it asks for holds, that the subset doesn't have it, or which one is nearly named so.
+fn say_other(view: &View<'_>, name: &[u8], said: &mut Said) -> Result<(), AllocError> {
+    if holds_anyway(view) {
+        let argument = view.sketch.word(view.at.saturating_add(2));
+        return note!(said; name, b" (", argument, b") is what holds anyway: tasks and protected objects are those of the Ravenscar profile, with priorities and ceilings; leave the pragma out");
+    }
+    if is_of_ada(name) {
+        return note!(said; b"pragma ",
+            name,
+            b" isn't in this subset of Ada (docs/language.md#what-there-is): leave it out");
+    }
+    say_near(view, name, said)
+}
+
+// Says which pragma is nearly named so.
+fn say_near(view: &View<'_>, name: &[u8], said: &mut Said) -> Result<(), AllocError> {
+    let mut nearest = Nearest::to(view.alloc, name)?;
+    for known in ["Elaborate", "Elaborate_All", "Elaborate_Body"] {
+        nearest.see(known.as_bytes())?;
+    }
+    match &nearest.name {
+        Some(other) => note!(said; b"did you mean ", other.as_slice(), b"?"),
+        None => Ok(()),
+    }
 }
 
 // Whether a pragma asks for what holds in every program.

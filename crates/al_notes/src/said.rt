@@ -2,7 +2,6 @@
 use std::alloc::{AllocError, Global};
 
 /// What is said of one diagnostic, a line each.
-#[derive(Drop)]
 pub struct Said {
     alloc: Global,
     pub lines: Vec<Vec<u8>>,
@@ -10,6 +9,17 @@ pub struct Said {
     line: Vec<u8>,
     /// Whether it is out of memory.
     is_short: bool,
+}
+
+impl Drop for Said {
+    fn drop(self) {
+        let Said {
+            alloc: _,
+            lines: _,
+            line: _,
+            is_short: _,
+        } = self;
+    }
 }
 
 impl Said {
@@ -30,6 +40,21 @@ impl Said {
         }
     }
 
+    /// Goes on with a number in digits.
+    pub fn add_number(&mut self, number: usize) {
+        match format!(in self.alloc; "{number}") {
+            Ok(digits) => self.add(digits.as_bytes()),
+            Err(_no_memory) => self.is_short = true,
+        }
+    }
+
+    /// Goes on with FILE:LINE.
+    pub fn add_place(&mut self, file: &[u8], line: u32) {
+        self.add(file);
+        self.add(b":");
+        self.add_number(line as usize);
+    }
+
     /// Ends the line.
     ///
     /// # Errors
@@ -42,6 +67,17 @@ impl Said {
         }
         self.lines.push(line)?;
         Ok(())
+    }
+
+    /// The lines.
+    pub fn into_lines(self) -> Vec<Vec<u8>> {
+        let Said {
+            alloc: _,
+            lines,
+            line: _,
+            is_short: _,
+        } = self;
+        lines
     }
 }
 
@@ -72,27 +108,6 @@ pub fn joined(alloc: Global, first: &[u8], second: &[u8]) -> Result<Vec<u8>, All
     let mut whole = Vec::from_slice(alloc, first)?;
     whole.extend_from_slice(second)?;
     Ok(whole)
-}
-
-/// A number in digits.
-///
-/// # Errors
-///
-/// `AllocError` if memory runs out.
-pub fn digits(alloc: Global, number: usize) -> Result<String, AllocError> {
-    format!(in alloc; "{number}")
-}
-
-/// FILE:LINE.
-///
-/// # Errors
-///
-/// `AllocError` if memory runs out.
-pub fn place_in(alloc: Global, file: &[u8], line: u32) -> Result<Vec<u8>, AllocError> {
-    let number = digits(alloc, line as usize)?;
-    let mut place = joined(alloc, file, b":")?;
-    place.extend_from_slice(number.as_bytes())?;
-    Ok(place)
 }
 
 /// The bytes in lower case.

@@ -1,7 +1,7 @@
 // E501 to E504, E601 to E604.
 use crate::completions::named_scope;
 use crate::note;
-use crate::said::{Said, digits};
+use crate::said::Said;
 use crate::types::{Kind, mark_type, type_of_expression};
 use crate::view::View;
 use al_sketch::{Declared, DeclaredKind, ScopeKind, Sketch};
@@ -36,22 +36,27 @@ fn bad_return(view: &View<'_>, said: &mut Said) -> Result<(), AllocError> {
     let Some(body) = body_round(view) else {
         return note!(said; b"a return statement belongs in the body of a subprogram or of an entry");
     };
-    let line = digits(view.alloc, view.sketch.line(body.name) as usize)?;
-    let name = view.sketch.word(body.name);
     if body.kind == DeclaredKind::Function {
+        say_function(view, &body, said);
         let (from, to) = body.mark;
-        return note!(said; b"function ",
-            name,
-            b" (line ",
-            line.as_bytes(),
-            b") returns ",
-            view.sketch.words(from, to),
-            b": a value is wanted");
+        return note!(said; b" returns ", view.sketch.words(from, to), b": a value is wanted");
     }
-    note!(said; name,
-        b" (line ",
-        line.as_bytes(),
-        b") is no function: its return has no value, and a task's body has none")
+    say_with_line(view, &body, said);
+    note!(said; b" is no function: its return has no value, and a task's body has none")
+}
+
+// Goes on with a function's name and its line.
+fn say_function(view: &View<'_>, body: &Declared, said: &mut Said) {
+    said.add(b"function ");
+    say_with_line(view, body, said);
+}
+
+// Goes on with a name and its line.
+fn say_with_line(view: &View<'_>, body: &Declared, said: &mut Said) {
+    said.add(view.sketch.word(body.name));
+    said.add(b" (line ");
+    said.add_number(view.sketch.line(body.name) as usize);
+    said.add(b")");
 }
 
 fn bad_exit(view: &View<'_>, said: &mut Said) -> Result<(), AllocError> {
@@ -68,14 +73,9 @@ fn no_return(view: &View<'_>, said: &mut Said) -> Result<(), AllocError> {
     let Some(body) = body_round(view) else {
         return Ok(());
     };
-    let line = digits(view.alloc, view.sketch.line(body.name) as usize)?;
     let (from, to) = body.mark;
-    note!(said; b"function ",
-        view.sketch.word(body.name),
-        b" (line ",
-        line.as_bytes(),
-        b") has no return statement, and is to give a value of ",
-        view.sketch.words(from, to))
+    say_function(view, &body, said);
+    note!(said; b" has no return statement, and is to give a value of ", view.sketch.words(from, to))
 }
 
 // Which literals of an enumeration are missing or chosen twice.
@@ -182,9 +182,11 @@ fn second_entry(view: &View<'_>, said: &mut Said) -> Result<(), AllocError> {
             None => false,
         };
         if is_first && is_here {
-            let line = digits(view.alloc, view.sketch.line(declared.name) as usize)?;
-            let name = view.sketch.word(declared.name);
-            note!(said; b"its entry is ", name, b", on line ", line.as_bytes())?;
+            said.add(b"its entry is ");
+            said.add(view.sketch.word(declared.name));
+            said.add(b", on line ");
+            said.add_number(view.sketch.line(declared.name) as usize);
+            said.end()?;
         }
     }
     note!(said; b"a protected object has one entry (the Ravenscar profile, ARM D.13): give each its own object")
@@ -192,14 +194,12 @@ fn second_entry(view: &View<'_>, said: &mut Said) -> Result<(), AllocError> {
 
 fn bad_barrier(view: &View<'_>, said: &mut Said) -> Result<(), AllocError> {
     for found in view.all_named(view.word())?.iter() {
-        let place = found.place(view.alloc)?;
         let kind = mark_type(view, found)?;
         if !matches!(kind, Kind::Unknown) {
-            note!(said; found.name(),
-                b" is declared ",
-                place.as_slice(),
-                b", as ",
-                kind.name())?;
+            said.add(found.name());
+            said.add(b" is declared ");
+            found.add_place(said);
+            note!(said; b", as ", kind.name())?;
         }
     }
     note!(said; b"a barrier is the name of a Boolean component of the object (ARM D.7, Simple_Barriers): keep Not_Empty : Boolean, and set it where the rest changes")

@@ -12,17 +12,31 @@ use crate::statements::{statements, tasks};
 use crate::types::no_interpretation;
 use crate::units::units;
 use crate::view::View;
+use al_expected::Grammar;
+use al_subset::Patterns;
 use std::alloc::AllocError;
 
-/// Says what there is to say of a diagnostic of this code.
+/// What notes on syntax errors are made by.
+#[derive(Clone, Copy)]
+pub struct Rules<'a> {
+    pub grammar: &'a Grammar,
+    pub patterns: &'a Patterns,
+}
+
+/// Says what there is to say of a diagnostic of this code; of a syntax error by the rules.
 ///
 /// # Errors
 ///
 /// `AllocError` if memory runs out.
-pub fn tell(view: &View<'_>, code: u16, said: &mut Said) -> Result<(), AllocError> {
+pub fn tell(
+    view: &View<'_>,
+    rules: Option<&Rules<'_>>,
+    code: u16,
+    said: &mut Said,
+) -> Result<(), AllocError> {
     match code {
         1..=6 => lexical(view, code, said),
-        101 => syntax(view, said),
+        101 => syntax(view, rules, said),
         200..=299 => units(view, code, said),
         301..=303 => tell_completions(view, code, said),
         304..=310 => tell_declarations(view, code, said),

@@ -1,11 +1,12 @@
 // E402: the types of expressions, as far as the sources say.
 use crate::calls::check_calls;
+use crate::completions::{named_scope, what_is};
 use crate::names::{kind_of_name, standard};
 use crate::note;
 use crate::operands::{check_aggregates, check_operands};
 use crate::said::Said;
 use crate::view::{Found, View};
-use crate::visible::{Way, declared_in, way_of};
+use crate::visible::{Way, declared_in, first_meant, way_of};
 use al_sketch::{DeclaredKind, LexemeKind, Sketch};
 use std::alloc::AllocError;
 
@@ -315,9 +316,37 @@ fn check_parts(view: &View<'_>, end: usize, said: &mut Said) -> Result<(), Alloc
         check_calls(view, view.at, end, said)?;
     }
     if said.lines.is_empty() {
+        tell_statement(view, end, said)?;
+    }
+    if said.lines.is_empty() {
         tell_names(view, end, said)?;
     }
     Ok(())
+}
+
+// Says of a function that its call is no statement.
+fn tell_statement(view: &View<'_>, end: usize, said: &mut Said) -> Result<(), AllocError> {
+    let is_first = begins_statement(view.sketch, view.at);
+    if !is_first || assignment_in(view.sketch, view.at, end).is_some() {
+        return Ok(());
+    }
+    let Some(found) = first_meant(view, view.word())? else {
+        return Ok(());
+    };
+    if found.declared.kind != DeclaredKind::Function {
+        return Ok(());
+    }
+    said.add(found.name());
+    said.add(b" is a function, declared ");
+    found.add_place(said);
+    note!(said; b": its call is no statement; assign its value, or pass it on")
+}
+
+// Whether a statement begins at a lexeme.
+fn begins_statement(sketch: &Sketch, at: usize) -> bool {
+    let before = sketch.word(at.saturating_sub(1));
+    sketch.is_among_statements(at)
+        && (before == b";".as_slice() || before == b"=>".as_slice() || is_before_statement(before))
 }
 
 // The end of the context that begins at a lexeme.
@@ -434,7 +463,7 @@ fn declared_before<'a>(view: &View<'a>, assign: usize) -> Result<Kind<'a>, Alloc
 
 // The type of the result of the function round the place.
 fn result_round<'a>(view: &View<'a>) -> Result<Kind<'a>, AllocError> {
-    let Some(name) = crate::completions::named_scope(view) else {
+    let Some(name) = named_scope(view) else {
         return Ok(Kind::Unknown);
     };
     for declared in view.sketch.declared() {
@@ -475,20 +504,33 @@ fn tell_names(view: &View<'_>, end: usize, said: &mut Said) -> Result<(), AllocE
 }
 
 fn tell_name(view: &View<'_>, index: usize, said: &mut Said) -> Result<(), AllocError> {
-    let meant = crate::visible::meant(view, view.sketch.word(index))?;
-    let Some(found) = meant.first() else {
+    let Some(found) = first_meant(view, view.sketch.word(index))? else {
         return Ok(());
     };
-    let place = found.place(view.alloc)?;
+    say_declared(&found, said)?;
+    tell_private(view, &found, said)
+}
+
+// Says what a declaration is, of which subtype, and where.
+fn say_declared(found: &Found<'_>, said: &mut Said) -> Result<(), AllocError> {
+    said.add(found.name());
+    said.add(b" is ");
     let mark = found.mark();
-    let what = crate::completions::what_is(found.declared.kind);
     if mark.is_empty() {
-        return note!(said; found.name(), b" is ", what, b", declared ", place.as_slice());
+        said.add(what_is(found.declared.kind));
+    } else {
+        let is_array = found.declared.formals.1 > 0 && found.declared.kind == DeclaredKind::Object;
+        said.add(if is_array {
+            b"an array"
+        } else {
+            what_is(found.declared.kind)
+        });
+        said.add(b" of ");
+        said.add(mark);
     }
-    let is_array = found.declared.formals.1 > 0 && found.declared.kind == DeclaredKind::Object;
-    let what: &[u8] = if is_array { b"an array" } else { what };
-    note!(said; found.name(), b" is ", what, b" of ", mark, b", declared ", place.as_slice())?;
-    tell_private(view, found, said)
+    said.add(b", declared ");
+    found.add_place(said);
+    said.end()
 }
 
 // Says that the type of an object is private elsewhere, if it is.
@@ -502,9 +544,8 @@ fn tell_private(view: &View<'_>, found: &Found<'_>, said: &mut Said) -> Result<(
     if !is_private || named.file == view.file {
         return Ok(());
     }
-    let place = named.place(view.alloc)?;
-    note!(said; named.name(),
-        b" is a private type, declared ",
-        place.as_slice(),
-        b": only its own package knows what it has")
+    said.add(named.name());
+    said.add(b" is a private type, declared ");
+    named.add_place(said);
+    note!(said; b": only its own package knows what it has")
 }

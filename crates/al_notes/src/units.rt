@@ -5,7 +5,7 @@ use crate::file_names::{
 };
 use crate::near::Nearest;
 use crate::note;
-use crate::said::{Said, folded, joined, say_outside};
+use crate::said::{Said, joined, say_outside};
 use crate::view::View;
 use al_sketch::DeclaredKind;
 use al_subset::predefined_unit;
@@ -91,19 +91,29 @@ fn missing_unit(view: &View<'_>, said: &mut Said) -> Result<(), AllocError> {
 
 // The unit of the files that is nearly named so.
 fn near_unit(view: &View<'_>, name: &[u8]) -> Result<Option<Vec<u8>>, AllocError> {
-    let lower = folded(view.alloc, name)?;
-    let mut nearest = Nearest::to(view.alloc, lower.as_slice())?;
+    let mut nearest = Nearest::to(view.alloc, name)?;
     nearest.see(b"ada.text_io")?;
     nearest.see(b"ada.real_time")?;
-    for number in 0..view.texts.len() {
-        if let Some((file, _text)) = view.texts.at(number) {
-            if stem(file).len().abs_diff(name.len()) <= 2 {
-                let unit = unit_of_file(view.alloc, file)?;
-                nearest.see(unit.as_slice())?;
-            }
+    see_files(view, &mut nearest)?;
+    Ok(nearest.into_name())
+}
+
+// Sees the units of all files.
+fn see_files(view: &View<'_>, nearest: &mut Nearest) -> Result<(), AllocError> {
+    let Ok(files) = view.texts.list() else {
+        return Err(AllocError);
+    };
+    for (file, _text) in files.iter() {
+        if nearest.may_be(stem(file)) {
+            see_file(view, file, nearest)?;
         }
     }
-    Ok(nearest.into_name())
+    Ok(())
+}
+
+fn see_file(view: &View<'_>, file: &[u8], nearest: &mut Nearest) -> Result<(), AllocError> {
+    let unit = unit_of_file(view.alloc, file)?;
+    nearest.see(unit.as_slice())
 }
 
 fn private_child(view: &View<'_>, said: &mut Said) -> Result<(), AllocError> {

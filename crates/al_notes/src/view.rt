@@ -1,9 +1,8 @@
 // What notes on one diagnostic are made from.
 use crate::file_names::unit_of_file;
 use crate::predefined::predefined_text;
-use crate::said::{folded, joined, place_in};
+use crate::said::{Said, folded};
 use al_base::Files;
-use al_expected::Grammar;
 use al_sketch::{Declared, Sketch};
 use std::alloc::{AllocError, Global};
 use std::collections::BTreeMap;
@@ -19,7 +18,6 @@ pub struct View<'a> {
     pub file: &'a [u8],
     pub sketch: &'a Sketch,
     pub at: usize,
-    pub grammar: &'a Grammar,
 }
 
 /// A declaration of one of the files.
@@ -36,31 +34,23 @@ impl<'a> Found<'a> {
         self.sketch.word(self.declared.name)
     }
 
-    /// Where it is declared: at FILE:LINE; of a predefined one in its unit.
-    ///
-    /// # Errors
-    ///
-    /// `AllocError` if memory runs out.
-    pub fn place(&self, alloc: Global) -> Result<Vec<u8>, AllocError> {
-        let spot = self.spot(alloc)?;
-        let before: &[u8] = if predefined_text(self.file).is_some() {
+    /// Goes on with where it is declared: at FILE:LINE; of a predefined one in its unit.
+    pub fn add_place(&self, said: &mut Said) {
+        said.add(if predefined_text(self.file).is_some() {
             b"in "
         } else {
             b"at "
-        };
-        joined(alloc, before, spot.as_slice())
+        });
+        self.add_spot(said);
     }
 
-    /// FILE:LINE of its name; of a predefined one its unit.
-    ///
-    /// # Errors
-    ///
-    /// `AllocError` if memory runs out.
-    pub fn spot(&self, alloc: Global) -> Result<Vec<u8>, AllocError> {
+    /// Goes on with FILE:LINE of its name; of a predefined one with its unit.
+    pub fn add_spot(&self, said: &mut Said) {
         if predefined_text(self.file).is_some() {
-            return Vec::from_slice(alloc, self.unit());
+            said.add(self.unit());
+        } else {
+            said.add_place(self.file, self.sketch.line(self.declared.name));
         }
-        place_in(alloc, self.file, self.sketch.line(self.declared.name))
     }
 
     /// The library unit that its file holds, as it is written there.

@@ -130,6 +130,11 @@ pub fn meant<'a>(view: &View<'a>, name: &[u8]) -> Result<Vec<Found<'a>>, AllocEr
     }
 }
 
+/// The first of those that a name means at the place.
+pub fn first_meant<'a>(view: &View<'a>, name: &[u8]) -> Result<Option<Found<'a>>, AllocError> {
+    Ok(meant(view, name)?.first().copied())
+}
+
 /// Whether it can be overloaded.
 pub fn is_overloadable(found: &Found<'_>) -> bool {
     matches!(

@@ -9,10 +9,15 @@ use std::collections::BTreeMap;
 const MOST: usize = 5;
 
 /// A faulty file, and how many units weren't checked for it.
-#[derive(Drop)]
 pub struct Cause {
     pub file: Vec<u8>,
     pub units: usize,
+}
+
+impl Drop for Cause {
+    fn drop(self) {
+        let Cause { file: _, units: _ } = self;
+    }
 }
 
 /// The faulty files for which units weren't checked, those with most units first, at most five: a unit counts for each that it depends on,

@@ -4,10 +4,18 @@ use al_notes::Notes;
 use std::alloc::{AllocError, Global};
 
 /// A diagnostic that is printed, with its notes, a line each.
-#[derive(Drop)]
 pub struct Noted<'a> {
     pub diagnostic: &'a Diagnostic,
     pub notes: Vec<Vec<u8>>,
+}
+
+impl<'a> Drop for Noted<'a> {
+    fn drop(self) {
+        let Noted {
+            diagnostic: _,
+            notes: _,
+        } = self;
+    }
 }
 
 /// Whether a diagnostic only says that others are to be mended first.
@@ -29,7 +37,7 @@ pub fn noted_of<'a>(
     has_notes: bool,
 ) -> Result<Vec<Noted<'a>>, AllocError> {
     let mut told = Vec::new(alloc);
-    let mut notes = Notes::over(alloc, texts)?;
+    let mut notes = Notes::over(alloc, texts);
     for diagnostic in found {
         if !lists_all && is_dependent(diagnostic) {
             continue;

@@ -75,6 +75,8 @@ operator-calls|an operator called by its name|the operator between its operands
 pragma-arguments|a pragma argument that is no name|Elaborate, Elaborate_All and Elaborate_Body take units; a priority is an aspect: task T with Priority => 10;
 pragma-priority|pragma Priority|the aspect: task T with Priority => 10; or protected P with Priority => 12 is
 pragmas-inside|a pragma among statements or operations|leave it out; a check can be an if statement
+interrupts|an interrupt handler|a task, and a protected object
+text-io-instances|an instance of a package of Ada.Text_IO|Ada.Text_IO.Put (T'Image (X)), for a value of the type T; nothing is read
 representation|a representation clause|leave it out; the layout is the compiler's
 attribute-access|the attribute Access|pass the object itself
 incomplete-types|an incomplete type|declare the type whole; there are no access types

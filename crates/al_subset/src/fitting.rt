@@ -1,30 +1,28 @@
 // Which construct is at a syntax error.
 use crate::constructs::{Construct, construct_of};
-use crate::patterns::{Inside, MISTAKES, PATTERNS, Pattern, pattern_in};
+use crate::patterns::{Inside, Pattern, Patterns};
 use al_sketch::{LexemeKind, ScopeKind, Sketch};
 
 /// The construct outside the subset that a source has at the lexeme of a syntax error, if one is known.
-pub fn construct_at(sketch: &Sketch, fault: usize) -> Option<Construct> {
-    construct_of(told_by(PATTERNS, sketch, fault)?)
+pub fn construct_at(patterns: &Patterns, sketch: &Sketch, fault: usize) -> Option<Construct> {
+    construct_of(told_by(patterns.constructs.as_slice(), sketch, fault)?)
 }
 
 /// What isn't Ada at the lexeme of a syntax error, if that is known.
-pub fn mistake_at(sketch: &Sketch, fault: usize) -> Option<&'static str> {
-    told_by(MISTAKES, sketch, fault)
+pub fn mistake_at(patterns: &Patterns, sketch: &Sketch, fault: usize) -> Option<&'static str> {
+    told_by(patterns.mistakes.as_slice(), sketch, fault)
 }
 
 // What the first pattern tells that fits.
-fn told_by(patterns: &'static str, sketch: &Sketch, fault: usize) -> Option<&'static str> {
+fn told_by(patterns: &[Pattern], sketch: &Sketch, fault: usize) -> Option<&'static str> {
     if fault >= sketch.len() {
         return None;
     }
     let parenthesis = parenthesis_at(sketch, fault);
-    for line in patterns.split('\n') {
-        if let Some(pattern) = pattern_in(line) {
-            let fits = fits(&pattern, sketch, fault);
-            if fits && is_inside(pattern.inside, parenthesis, sketch, fault) {
-                return Some(pattern.says);
-            }
+    for pattern in patterns {
+        let fits = fits(pattern, sketch, fault);
+        if fits && is_inside(pattern.inside, parenthesis, sketch, fault) {
+            return Some(pattern.says);
         }
     }
     None

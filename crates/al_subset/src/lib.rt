@@ -8,5 +8,5 @@ mod units;
 
 pub use constructs::{CONSTRUCTS, Construct, construct_of};
 pub use fitting::{construct_at, mistake_at};
-pub use patterns::{Inside, MISTAKES, PATTERNS, Pattern};
+pub use patterns::{Inside, MISTAKES, PATTERNS, Pattern, Patterns};
 pub use units::{NAMES, UNITS, Unknown, predefined_name, predefined_unit};

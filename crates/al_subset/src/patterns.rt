@@ -1,4 +1,5 @@
 // By which lexemes round a syntax error a construct is known.
+use std::alloc::{AllocError, Global};
 
 /// What is round a syntax error.
 #[derive(Clone, Copy, PartialEq, Eq)]
@@ -50,6 +51,8 @@ AfterUnit||pragma|wide-units
 Anywhere||generic|generic-units
 Anywhere|type ID is|new|derived-types
 Anywhere|is|new|generic-instances
+Anywhere||package ID is new ada . text_io|text-io-instances
+Anywhere||package ID is new text_io|text-io-instances
 Anywhere||package ID is new|generic-instances
 Anywhere||package ID . ID is new|generic-instances
 Anywhere||procedure ID is new|generic-instances
@@ -138,6 +141,8 @@ Anywhere|pragma priority (||pragma-priority
 Pragma|||pragma-arguments
 Statements||pragma|pragmas-inside
 Protected||pragma priority|pragma-priority
+Protected||pragma attach_handler|interrupts
+Protected||pragma interrupt_handler|interrupts
 Protected||pragma|pragmas-inside
 ProtectedBody||pragma|pragmas-inside
 Record||pragma|pragmas-inside
@@ -242,8 +247,50 @@ Anywhere||xor|operators of two kinds need parentheses (ARM 4.4)
 Anywhere|**|-|a negative exponent isn't there for integers
 ";
 
-/// The pattern that a line tells.
-pub fn pattern_in(line: &'static str) -> Option<Pattern> {
+/// The patterns of [`MISTAKES`] and [`PATTERNS`], read.
+pub struct Patterns {
+    pub mistakes: Vec<Pattern>,
+    pub constructs: Vec<Pattern>,
+}
+
+impl Drop for Patterns {
+    fn drop(self) {
+        let Patterns {
+            mistakes: _,
+            constructs: _,
+        } = self;
+    }
+}
+
+impl Patterns {
+    /// Both tables, read.
+    ///
+    /// # Errors
+    ///
+    /// `AllocError` if memory runs out.
+    pub fn new(alloc: Global) -> Result<Patterns, AllocError> {
+        let mut patterns = Patterns {
+            mistakes: Vec::new(alloc),
+            constructs: Vec::new(alloc),
+        };
+        read_table(MISTAKES, &mut patterns.mistakes)?;
+        read_table(PATTERNS, &mut patterns.constructs)?;
+        Ok(patterns)
+    }
+}
+
+// Adds the patterns of a table.
+fn read_table(table: &'static str, patterns: &mut Vec<Pattern>) -> Result<(), AllocError> {
+    for line in table.split('\n') {
+        if let Some(pattern) = pattern_in(line) {
+            patterns.push(pattern)?;
+        }
+    }
+    Ok(())
+}
+
+// The pattern that a line tells.
+fn pattern_in(line: &'static str) -> Option<Pattern> {
     let (inside, rest) = line.split_once('|')?;
     let (before, rest) = rest.split_once('|')?;
     let (at, says) = rest.split_once('|')?;
