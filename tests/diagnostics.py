@@ -22,8 +22,8 @@ except ImportError:
 
 TESTS = pathlib.Path(__file__).resolve().parent
 TOP = TESTS.parent
-# Seconds of processor time that notes on 1,000 faulty units may take.
-MOST = 0.1
+# Seconds of processor time that notes on 1,000 faulty units may take: twice what is aimed at, as a processor that has other work takes longer.
+MOST = 0.2
 
 
 def table(file, name):
