@@ -22,8 +22,9 @@ except ImportError:
 
 TESTS = pathlib.Path(__file__).resolve().parent
 TOP = TESTS.parent
-# Seconds of processor time that notes on 1,000 faulty units may take: twice what is aimed at, as a processor that has other work takes longer.
-MOST = 0.2
+# Seconds of processor time that notes on 1,000 faulty units may take: five times what is aimed at, since beside other work the difference of two runs
+# is off by as much; notes that grow as the square of the units take seconds.
+MOST = 0.5
 
 
 def table(file, name):
