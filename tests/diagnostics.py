@@ -22,8 +22,8 @@ except ImportError:
 
 TESTS = pathlib.Path(__file__).resolve().parent
 TOP = TESTS.parent
-# Seconds of processor time that notes on 1,000 faulty units may take: five times what is aimed at, since beside other work the difference of two runs
-# is off by as much; notes that grow as the square of the units take seconds.
+# Seconds of processor time that notes on 1,000 faulty units may take. What is aimed at is 0.1; 0.04 to 0.15 was seen, as the difference of two runs varies
+# beside other work. The limit finds notes that grow as the square of the units, which take seconds, and no smaller loss.
 MOST = 0.5
 
 
