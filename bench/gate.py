@@ -1,13 +1,13 @@
 #!/usr/bin/env python3
 """gate.py sample FOLDER FILE: beside a run of `rt ci` in FOLDER, what each crate takes of the processors.
 
-    gate.py table LOG FILE EARLIER [LOG ..]
-                           makes the table of docs/GATE.md anew, by FILE and by what `tests/run proofs` printed (each LOG), and prints the sums
+    gate.py list LOG FILE EARLIER [LOG ..]
+                           makes the list of docs/GATE.md anew, by FILE and by what `tests/run proofs` printed (each LOG), and prints the sums
 
 `sample` looks every four seconds at the provers and compilers that work in FOLDER, and writes FILE until it is ended: seconds of processor time by crate, of its
 proof with its tests, of clang, and of its wrong bodies that `rt ci` tries. What a process takes after the last look at it is lost, some two seconds each.
 The pace is that of the run of 2026-11-27, given by crates of the tree of that day (THEN): EARLIER is
-what `sample` wrote beside a run of `rt ci` over that tree on the machine of now. Beside it stands how many times as long all crates took as in the table before.
+what `sample` wrote beside a run of `rt ci` over that tree on the machine of now. Beside it stands how many times as long all crates took as in the list before.
 """
 import collections
 import json
@@ -24,7 +24,8 @@ TOGETHER = re.compile(r"^wrong bodies of (\w+): (\d+) of \d+ refused, (\d+) chec
 # The tree of the run of 2026-11-27, and the seconds of processor time that this run took for two of its crates.
 TREE = "7079d479"
 THEN = {"al_lex": 71, "al_machine": 133}
-HEAD = "| Crate | Proofs and tests | Clang | Wrong bodies | Their seconds |"
+# The line of docs/GATE.md with the seconds of each crate.
+LIST = re.compile(r"^`\w+` \d+[,;] .*$", re.MULTILINE)
 PROOF, WRONG, CLANG = range(3)
 
 
@@ -74,24 +75,23 @@ def tried(log):
 
 
 def before(page):
-    """The seconds of each crate's proofs and tests in the table before."""
-    return {name: int(seconds) for name, seconds in re.findall(r"^\| `(\w+)` \| (\d+) \|", page, re.MULTILINE)}
+    """The seconds of each crate's proofs and tests in the list before."""
+    return {name: int(seconds) for name, seconds in re.findall(r"`(\w+)` (\d+)", LIST.search(page)[0])}
 
 
-def table(log, sums):
-    bodies = tried(log)
-    lines = [HEAD, "|---" * HEAD.count(" | ") + "|---|"]
+def list_of(log, sums):
+    bodies, listed = tried(log), []
     for name, (proof, wrong, clang) in sorted(sums.items(), key=lambda it: -it[1][PROOF]):
         refused, seconds = bodies[name]
-        lines.append(f"| `{name}` | {proof:.0f} | {f'{clang:.0f}' if clang else ''} | {refused or ''} | {f'{wrong + seconds:.0f}' if refused else ''} |")
-    return "\n".join(lines) + "\n"
+        listed.append(f"`{name}` {proof:.0f}{f', clang {clang:.0f}' if clang else ''}{f', {refused} wrong bodies {wrong + seconds:.0f}' if refused else ''}")
+    return "; ".join(listed) + "."
 
 
 def make_table(log, sums, then):
     path = ROOT / "docs" / "GATE.md"
     page = path.read_text()
     earlier, bodies = before(page), tried(log)
-    path.write_text(page[: page.index("\n| Crate |") + 1] + table(log, sums))
+    path.write_text(LIST.sub(lambda _: list_of(log, sums), page, count=1))
     proofs, wrong, clang = (sum(it[at] for it in sums.values()) for at in (PROOF, WRONG, CLANG))
     wrong += sum(seconds for _, seconds in bodies.values())
     print(f"{len(sums)} crates: proofs and tests {proofs:,.0f} s, clang {clang:,.0f} s, {sum(count for count, _ in bodies.values())} wrong bodies {wrong:,.0f} s")
@@ -99,7 +99,7 @@ def make_table(log, sums, then):
     both = [it for it in sums if earlier.get(it)]
     paces = {
         f"by the tree of {TREE} ({took})": sum(then[it][0] for it in THEN) / sum(THEN.values()),
-        "by all crates of the table": sum(sums[it][PROOF] for it in both) / sum(earlier[it] for it in both),
+        "by all crates of the list": sum(sums[it][PROOF] for it in both) / sum(earlier[it] for it in both),
     }
     for what, pace in paces.items():
         print(f"{what} {pace:.2f} times as long: at that pace {proofs / pace:,.0f} s and {wrong / pace:,.0f} s")
@@ -109,7 +109,7 @@ def make_table(log, sums, then):
 def main(words):
     if len(words) == 3 and words[0] == "sample":
         sample(pathlib.Path(words[1]).resolve(), pathlib.Path(words[2]))
-    elif len(words) >= 4 and words[0] == "table":
+    elif len(words) >= 4 and words[0] == "list":
         logs = [pathlib.Path(it).read_text(errors="replace") for it in [words[1], *words[4:]]]
         make_table("\n".join(logs), *(json.loads(pathlib.Path(it).read_text()) for it in words[2:4]))
     else:

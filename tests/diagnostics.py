@@ -1,11 +1,12 @@
 #!/usr/bin/env python3
-"""diagnostics.py ADABUILD: what the built program `adabuild` prints of diagnostics. diagnostics.py --write: makes docs/diagnostics.md.
-diagnostics.py --gnat ADABUILD: makes tests/messages.md, what GNAT and adabuild print for each page's wrong source.
+"""diagnostics.py ADABUILD: what the built program `adabuild` prints of diagnostics. diagnostics.py --write: makes docs/diagnostics.md,
+and the table of notes of docs/adabuild.md.
+diagnostics.py --gnat ADABUILD: makes tests/messages.md, what GNAT and adabuild print for each page's wrong source, and for the programs of two recordings.
 
-docs/diagnostics.md has the rules of al_explain, and has to be as --write makes it. Each page's wrong source has to give its code, and its right source
+docs/diagnostics.md has the rules of al_explain, docs/adabuild.md notes of recordings, and both have to be as --write makes them. Each page's wrong source has to give its code, and its right source
 to build; `--explain` prints each page, and refuses other codes. `--format json` writes an object a line, `--format sarif` one document that the schema
-takes (tests/sarif.json: what SARIF 2.1.0 says of the parts that occur). One wrong line prints under ten lines. Prints each failure, and last
-`N passed, M failed`.
+takes (tests/sarif.json: what SARIF 2.1.0 says of the parts that occur). Two histories with the same files print the same. One wrong line prints under
+ten lines, and notes on 1,000 faulty units take little time. Prints each failure, and last `N passed, M failed`.
 """
 import json
 import pathlib
@@ -15,6 +16,8 @@ import subprocess
 import sys
 import tempfile
 
+from folders import Talk
+
 try:
     import jsonschema
 except ImportError:
@@ -22,24 +25,27 @@ except ImportError:
 
 TESTS = pathlib.Path(__file__).resolve().parent
 TOP = TESTS.parent
-# Seconds of processor time that notes on 1,000 faulty units may take. What is aimed at is 0.1; 0.04 to 0.15 was seen, as the difference of two runs varies
-# beside other work. The limit finds notes that grow as the square of the units, which take seconds, and no smaller loss.
-MOST = 0.5
+# Seconds of processor time that notes on 1,000 faulty units may take.
+MOST = 0.1
+# How many runs with notes and without there are at least, and at most where other work makes them slow.
+ROUNDS = (3, 40)
 
 
-def table(file, name):
-    """The text of a table."""
-    text = (TOP / file).read_text()
-    found = re.search(rf'pub const {name}: &str =\s*"((?:[^"\\]|\\.)*)";', text)
-    return found.group(1).replace('\\"', '"').replace("\\\\", "\\")
+def tables():
+    """The texts of the tables of al_explain."""
+    for file in sorted((TOP / "crates/al_explain/src").glob("*.rt")):
+        for found in re.findall(r'pub const \w+: &str =\s*"(%(?:[^"\\]|\\.)*)";', file.read_text()):
+            yield found.replace('\\"', '"').replace("\\\\", "\\")
 
 
 def pages():
-    """The pages of al_explain, as dictionaries."""
-    parts = table("crates/al_explain/src/table.rt", "PAGES").split("%")[1:]
+    """The pages of al_explain, as dictionaries, by their codes."""
+    parts = "".join(tables()).split("%")[1:]
+    found = []
     for head, wrong, right in zip(parts[::3], parts[1::3], parts[2::3]):
         code, clauses, rule = head.split("|")
-        yield {"code": int(code), "clauses": clauses, "rule": rule, "wrong": wrong, "right": right}
+        found.append({"code": int(code), "clauses": clauses, "rule": rule, "wrong": wrong, "right": right})
+    return sorted(found, key=lambda page: page["code"])
 
 
 def messages():
@@ -62,7 +68,31 @@ def diagnostics_page():
     return text + "".join(f"- **E{page['code']:03}** {page['rule']} ({page['clauses'].replace('ARM ', '')})\n" for page in pages())
 
 
-PAGES = {"docs/diagnostics.md": diagnostics_page}
+# The programs of recordings that docs/adabuild.md shows, by the file and the folder.
+SHOWN = (
+    ("ordinary", "record_defaults for_of expression_function"),
+    ("textbook", "entry_family"),
+    ("mistakes", "semicolon keyword2 if_assign endif undeclared use field put_int case_missing"),
+)
+
+
+def shown_row(text, name):
+    """The code, the line and the notes of the first diagnostic that a recording has for a folder."""
+    said = re.search(rf"(?m)^\$ adabuild (?:\S+ )*{name}\n\S+: error: (E\d+) .*\n(.*)\n.*\n((?:note: .*\n)+)", text)
+    notes = said[3].replace(" (docs/language.md#what-there-isnt)", "").replace(f"{name}/", "").replace("note: ", "").splitlines()
+    return f"| {said[1]} `{said[2].strip()}` | {' / '.join(notes)} |\n"
+
+
+def adabuild_page():
+    """docs/adabuild.md with its table of notes as the recordings have them."""
+    text = (TOP / "docs/adabuild.md").read_text()
+    head = "| Code and source | Notes |\n|---|---|\n"
+    before, _, after = text.partition(head)
+    rows = "".join(shown_row((TESTS / f"folders/{file}.txt").read_text(), name) for file, names in SHOWN for name in names.split())
+    return before + head + rows + after[after.index("\n\n") + 1 :]
+
+
+PAGES = {"docs/diagnostics.md": diagnostics_page, "docs/adabuild.md": adabuild_page}
 
 
 class Count:
@@ -166,11 +196,51 @@ def processor_time(program, *words):
 
 
 def spent_on_notes(program, folder, what):
-    """Seconds of processor time that notes on 1,000 faulty units take, the least of three runs against the least without notes."""
-    plain = min(processor_time(program, "--all", "--plain", "main", folder)[0] for _ in range(3))
-    noted, said = min((processor_time(program, "--all", "main", folder) for _ in range(3)), key=lambda it: it[0])
-    print(f"notes of 1,000 faulty units, {what}: {1000 * (noted - plain):.0f} ms")
-    return noted - plain if said.count("note: ") >= 1000 else float("inf")
+    """Seconds of processor time that notes on 1,000 faulty units take: the least with notes against the least without, of runs in turn until they are few enough."""
+    plain, noted, said = [], [], ""
+    for number in range(ROUNDS[1]):
+        plain.append(processor_time(program, "--all", "--plain", "main", folder)[0])
+        spent, said = processor_time(program, "--all", "main", folder)
+        noted.append(spent)
+        if number + 1 >= ROUNDS[0] and min(noted) - min(plain) < MOST:
+            break
+    least = min(noted) - min(plain)
+    print(f"notes of 1,000 faulty units, {what}: {1000 * least:.0f} ms, the least of {len(plain)} runs")
+    return least if said.count("note: ") >= 1000 else float("inf")
+
+
+def laid_over(folder, text):
+    """The files of a text in place of those of a folder."""
+    for file in folder.iterdir():
+        file.unlink()
+    for file in laid(folder.parent, text).iterdir():
+        (folder / file.name).write_bytes(file.read_bytes())
+
+
+def faulty_lines(lines):
+    """The lines of a build up to how many errors there are, without how many units were checked, or weren't."""
+    told = []
+    for line in lines:
+        if not re.match(r"checked |\d+ units? depends? on ", line):
+            told.append(line)
+        if not line or re.fullmatch(r"\d+ errors?\n", line):
+            break
+    return told
+
+
+def try_histories(program, room, count):
+    """The same files have the same diagnostics with the same notes, whatever else the program has built before."""
+    texts = [page["wrong"] for page in pages()]
+    folder = laid(room, texts[0])
+    talk = Talk([program, "--watch", "--all", "main"], folder)
+    for number, text in enumerate([*texts, *reversed(texts)]):
+        if number > 0:
+            laid_over(folder, text)
+            talk.say("")
+        said = faulty_lines(iter(lambda: talk.next_line().decode(errors="replace"), None))
+        alone = subprocess.run([program, "--all", "main"], cwd=folder, capture_output=True, text=True, errors="replace").stderr
+        count.check(f"two histories, {number}", said and said == faulty_lines(alone.splitlines(keepends=True)), said)
+    talk.finish()
 
 
 def first_messages(text):
@@ -179,20 +249,34 @@ def first_messages(text):
     return "; ".join(message for place, message in found if place == found[0][0])
 
 
+def recorded(file):
+    """The programs of a recording, each as a text of its files."""
+    for part in re.findall(r"(?m)((?:^\+ .*\n(?:^\|.*\n)*)+)^\$ adabuild", (TESTS / "folders" / file).read_text()):
+        yield re.sub(r"(?m)^\|", "", re.sub(r"(?m)^\+ (?:.*/)?", "-- ", part))
+
+
+def row(program, folder, code=""):
+    """The line of the first error, or of that code, what GNAT prints at its first error, and what adabuild prints with its notes; none without an error."""
+    said = subprocess.run(["gnatmake", "-q", "-gnatc", "-gnat2012", "-gnatwn", "main.adb"], cwd=folder, capture_output=True, text=True)
+    own = run(program, "--all", "main", folder).stderr.splitlines()
+    at = next((n for n, line in enumerate(own) if f": error: {code}" in line), None)
+    if at is None:
+        return ""
+    notes = own[at + 3 :]
+    notes = notes[: next((n for n, it in enumerate(notes) if not it.startswith("note: ")), len(notes))]
+    told = " / ".join([own[at].split("error: ")[1], *(it.removeprefix("note: ") for it in notes)])
+    cells = [f"`{own[at + 1].strip()[:60]}`", first_messages(said.stderr) or "nothing", told]
+    return "| " + " | ".join(it.replace("|", "\\|").replace(str(folder), "") for it in cells) + " |\n"
+
+
 def gnat_table(program, room):
-    text = "# What GNAT and adabuild print\n\nFor the wrong source of each page of `al_explain`: what GNAT prints at its first error, and what `adabuild` prints with its notes. Made by\n`python3 tests/diagnostics.py --gnat out/adabuild`.\n\n| Source | GNAT | adabuild |\n|---|---|---|\n"
-    for page in pages():
-        folder = laid(room, page["wrong"])
-        said = subprocess.run(["gnatmake", "-q", "-gnatc", "-gnatwn", "main.adb"], cwd=folder, capture_output=True, text=True)
-        gnat = first_messages(said.stderr) or "nothing"
-        own = run(program, "--all", "main", folder).stderr.splitlines()
-        at = next((n for n, line in enumerate(own) if f"error: E{page['code']:03} " in line), None)
-        if at is not None:
-            line = own[at + 1].strip()[:60]
-            notes = [it.removeprefix("note: ") for it in own[at + 3 :]]
-            notes = notes[: next((n for n, it in enumerate(notes) if not own[at + 3 + n].startswith("note: ")), len(notes))]
-            cells = [f"`{line}`", gnat, "; ".join([own[at].split("error: ")[1], *notes])]
-            text += "| " + " | ".join(it.replace("|", "\\|").replace(str(folder), "") for it in cells) + " |\n"
+    text = "# What GNAT and adabuild print\n\nWhat GNAT prints at the first error of a source, and what `adabuild` prints with its notes. Made by\n`python3 tests/diagnostics.py --gnat out/adabuild`.\n"
+    head = "\n| Source | GNAT | adabuild |\n|---|---|---|\n"
+    text += "\n## The wrong source of each page of `al_explain`\n" + head
+    text += "".join(row(program, laid(room, page["wrong"]), f"E{page['code']:03} ") for page in pages())
+    for title, file in (("Mistakes", "mistakes.txt"), ("Programs of text books that aren't in the subset", "textbook.txt")):
+        text += f"\n## {title} (tests/folders/{file})\n" + head
+        text += "".join(row(program, laid(room, one)) for one in recorded(file))
     return text
 
 
@@ -210,7 +294,7 @@ def main(word, *more):
         count.check(file, (TOP / file).exists() and (TOP / file).read_text() == made())
     program = str(pathlib.Path(word).resolve())
     with tempfile.TemporaryDirectory() as room:
-        for part in (try_pages, try_json, try_sarif, try_many):
+        for part in (try_pages, try_json, try_sarif, try_histories, try_many):
             part(program, room, count)
     print(f"{count.passed} passed, {count.failed} failed")
     return 1 if count.failed else 0

@@ -33,10 +33,10 @@ def main():
         folder = room / "some where/bin"
         status, output, told = said(["bash", "tools/install", str(folder)])
         check("it is installed", (status, told), (0, ""))
-        check("the paths are printed", [it for it in output.splitlines() if it.startswith(str(folder / "ada"))], [str(folder / "adabuild"), str(folder / "adalib")])
+        check("the paths are printed", [it for it in output.splitlines() if it.startswith(str(folder / "ada"))], [str(folder / it) for it in ("adabuild", "adalib", "adals")])
         help_text = said([folder / "adabuild", "--help"])[1]
         check("the help is last", output.endswith("\n" + help_text) and help_text != "", True)
-        check("nothing else is there", sorted(it.name for it in folder.iterdir()), ["adabuild", "adalib"])
+        check("nothing else is there", sorted(it.name for it in folder.iterdir()), ["adabuild", "adalib", "adals"])
         check("it runs", said([folder / "adabuild", "--run", "main", "crates/adabuild/data"]), (0, "total 55\n", ""))
         path = {**os.environ, "PATH": f"{folder}:{os.environ['PATH']}"}
         status, output, told = said(["bash", "tools/install", str(folder)], env=path)

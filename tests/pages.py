@@ -21,7 +21,7 @@ ROOT = pathlib.Path(__file__).resolve().parent.parent
 PAGES = [*sorted(ROOT.glob("*.md")), *sorted((ROOT / "docs").glob("*.md")), ROOT / "drafts/README.md"]
 # How many words a page has at most, and all pages.
 LIMITS = {"README.md": 1_000, "CONTRIBUTING.md": 1_200, "docs/PROVED.md": 4_500, "docs/DECISIONS.md": 6_000}
-LIMIT = 48_926
+LIMIT = 50_000
 CONTRIBUTING = ROOT / "CONTRIBUTING.md"
 # A list: its heading with the model's words in backquotes after `as`, what is said of it, and lines of a crate and its files.
 LIST = re.compile(r"^(### [^\n]*, as (`[^\n]*`)\n\n(?:[^\n#-][^\n]*\n+)*)((?:- `\w+`: [^\n]*\n)*)\n*", re.MULTILINE)

@@ -2,7 +2,7 @@
 """suite.py PART ..: runs these parts of the tests, one behind the other, and adds up what passed.
 suite.py quick [CRATE ..]: those alone that a change reaches.
 
-    tests     builds both programs before any proof (tools/unproved.py) and runs all stored tests over them; whether wrong bodies can be put into the text of now,
+    tests     builds the programs before any proof (tools/unproved.py) and runs all stored tests over them; whether wrong bodies can be put into the text of now,
               and what the pages name is there
     proofs    the merge gate `rt ci`, in place; then the stored tests over the programs that it leaves, as each of its two compilers builds them; beside it wrong bodies
               that contracts refuse (tests/wrong_bodies.py), and others that stored sessions refuse (tests/giving_up.py)
@@ -30,7 +30,7 @@ ROOT = pathlib.Path(__file__).resolve().parent.parent
 LANES = int(os.environ.get("RT_JOBS") or len(os.sched_getaffinity(0)))
 COUNT = re.compile(r"^(\d+) passed, (\d+) failed$", re.MULTILINE)
 FAILURE = re.compile(r"FAILED|NOT PROVED|BAD EDIT|: failed\b")
-PROGRAMS = ("adalib", "adabuild")
+PROGRAMS = ("adalib", "adabuild", "adals")
 # Of how many growths of memory one is refused in the tests before any proof; over the programs that are proved each is.
 SOME = 8
 # How `rt ci` has what each of its compilers builds end.
@@ -56,7 +56,7 @@ def python(script, *words):
 
 
 def stored_tests(program, path, after, every=1):
-    """The stored tests of one of the two programs, the longest first; of growths of memory one of so many is refused."""
+    """The stored tests of one of the programs, the longest first; of growths of memory one of so many is refused."""
     named = {
         "adalib": {
             "refused memory": ["memory.py", "--every", every],
@@ -66,6 +66,7 @@ def stored_tests(program, path, after, every=1):
             "failing devices": ["devices.py"],
         },
         "adabuild": {"folders": ["folders.py"], "diagnostics": ["diagnostics.py"], "traces": ["traces.py"], "images": ["machine.py"]},
+        "adals": {"an editor": ["editor.py", "--adalib", str(path).replace("adals", "adalib")]},
     }
     return [Command(f"{name} of {path.relative_to(ROOT)}", python(f"tests/{words[0]}", *words[1:], path), after, path) for name, words in named[program].items()]
 
@@ -78,7 +79,9 @@ def tests():
         Command("what the pages name", python("tests/pages.py")),
         Command("alternatives of the grammar", python("tests/alternatives.py"), counts=False),
     ]
-    stored = [test for it, build in zip(PROGRAMS, builds) for test in stored_tests(it, ROOT / "out" / it, (build.name,), SOME)]
+    # what an editor is told is held against what adalib says
+    after = {it: (build.name, builds[0].name) if it == "adals" else (build.name,) for it, build in zip(PROGRAMS, builds)}
+    stored = [test for it in PROGRAMS for test in stored_tests(it, ROOT / "out" / it, after[it], SOME)]
     library = ROOT / "out" / PROGRAMS[0]
     installing = Command("programs where they stay", python("tests/installing.py"), tuple(it.name for it in builds), library)
     return [*builds, *texts, *stored, installing, Command("bodies that are only slow", python("tests/costs.py", library), (builds[0].name,), library)]

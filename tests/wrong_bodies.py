@@ -21,8 +21,6 @@ below it as it was built, and who judged, the kit and these scripts. The folder,
 import concurrent.futures
 import functools
 import hashlib
-import importlib.machinery
-import importlib.util
 import json
 import os
 import pathlib
@@ -66,11 +64,10 @@ def digest_of(crate):
 
 @functools.lru_cache(maxsize=None)
 def judge():
-    """What tells who judges: the kit's own sum of itself, and these scripts."""
-    loader = importlib.machinery.SourceFileLoader("kit_rt", str(together.KIT / "bin" / "rt"))
-    kit = importlib.util.module_from_spec(importlib.util.spec_from_loader("kit_rt", loader))
-    loader.exec_module(kit)
-    return [kit.kit_sum(), *(digest(ROOT / "tests" / it) for it in ("edits.py", "together.py", "wrong_bodies.py"))]
+    """What tells who judges: the kit's line, its programs, its logic and its libraries (the format of each has the sums of its files), and these scripts."""
+    kit = [together.KIT / "KIT-ID", *sorted(it for of in ("bin/*", "logic_built/**/*", "rlibs/*/format") for it in together.KIT.glob(of) if it.is_file())]
+    scripts = [ROOT / "tests" / it for it in ("edits.py", "together.py", "wrong_bodies.py")]
+    return hashlib.sha256(repr([(str(it), digest(it)) for it in [*kit, *scripts]]).encode()).hexdigest()
 
 
 class Refused:

@@ -9,6 +9,7 @@ ghost use Rattle.std.specs.Hash as fed;
 ghost use Rattle.std.specs.Ordering.{as_partial_cmp, nat_cmp};
 ghost use Rattle.al_base.specs.NameBytes.{bytes_model, AreShort};
 
+use crate::bytes::{order_of_bytes, same_bytes};
 use crate::refusal::NoMemory;
 use std::alloc::Global;
 use std::cmp::Ordering;
@@ -70,13 +71,16 @@ impl Model for Name {
 }
 
 impl Name {
-    /// The name of these bytes. It takes no memory.
+    /// The name of these bytes. It takes no memory, and gives back that of a short one.
     pub fn new(bytes: Vec<u8>) -> Self
         ensures { result ≡ bytes.items }
     {
-        Name {
-            bytes: NameBytes::Long(bytes),
-        }
+        let bytes = if bytes.len() <= MOST_SHORT {
+            NameBytes::Short(bytes.len() as u8, short(bytes.as_slice()))
+        } else {
+            NameBytes::Long(bytes)
+        };
+        Name { bytes }
     }
 
     /// A name with a copy of these bytes.
@@ -177,7 +181,7 @@ impl PartialEq for Name {
     ghost laws = { Prim.search (comparing, rules) };
 
     fn eq(&self, other: &Name) -> bool {
-        self.as_slice() == other.as_slice()
+        same_bytes(self.as_slice(), other.as_slice())
     }
 }
 
@@ -196,7 +200,7 @@ impl Ord for Name {
     ghost matches_eq = { Prim.search (comparing, rules) };
 
     fn cmp(&self, other: &Name) -> Ordering {
-        self.as_slice().cmp(other.as_slice())
+        order_of_bytes(self.as_slice(), other.as_slice())
     }
 }
 

@@ -50,7 +50,14 @@ fn sound_within<A: Answers>(
     let shown = shown_views(alloc, bounds, &wanted, log, &sound, recorder)?;
     let complete = completed_by(alloc, bounds, header, &sound, recorder)?;
     recorder.agrees();
-    self_checked(alloc, &bounds.unit, shown.as_slice(), complete, sound)
+    self_checked(
+        alloc,
+        &bounds.unit,
+        shown.views.as_slice(),
+        shown.known_kept,
+        complete,
+        sound,
+    )
 }
 
 /// The result of the check of a unit, from its verdict and what was asked for it.

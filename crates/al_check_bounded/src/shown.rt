@@ -1,10 +1,11 @@
 // The views that a unit was shown.
-ghost use Rattle.std.specs.Prelude.{◌≡◌, IfOk, OnOk};
+ghost use Rattle.std.specs.Prelude.{◌≡◌, IfOk, IsTrue, OnOk, true};
 ghost use Rattle.al_view_typed.specs.UnitTrees.{unit_model};
 ghost use Rattle.al_query.specs.Asked.{AsksOf};
 ghost use Rattle.al_query.specs.Reads.{Agrees, HoldsBy, FromAnswers};
 ghost use Rattle.al_query_outcome.specs.ReadsLaw.{AsksOthers};
 ghost use Rattle.al_query_outcome.specs.Tables.{interface_of};
+ghost use Rattle.al_check_promises.specs.SelfChecks.{is_kept};
 ghost use Rattle.al_check_bounded.specs.Bounding.{allowed, bounded};
 ghost use Rattle.al_check_bounded.specs.Questions.{shown_by};
 ghost use Rattle.al_check_bounded.specs.Within.{IsAsGood, wanted_of};
@@ -54,7 +55,15 @@ fn asked_within<A: Answers>(
     Ok(views)
 }
 
-/// Views that were shown, by which a sound unit is kept if it would be by all that can be shown: the recorded views if these suffice, or else all.
+/// Views that were shown, and whether it is known that a unit is kept with them.
+#[derive(Drop)]
+pub(crate) struct ShownViews {
+    pub(crate) views: Seq<View>,
+    pub(crate) known_kept: bool,
+}
+
+/// Views that were shown, with which a sound unit is kept where it is with all that can be shown: those that were recorded, where they do,
+/// or else all.
 pub(crate) fn shown_views<A: Answers>(
     alloc: Global,
     bounds: &Bounds,
@@ -62,18 +71,26 @@ pub(crate) fn shown_views<A: Answers>(
     log: &ReadLog,
     sound: &SoundUnit,
     recorder: &mut Recorder<A>,
-) -> Result<Seq<View>, NoMemory>
+) -> Result<ShownViews, NoMemory>
     requires { HoldsBy recorder.old.log (λ t. Agrees (bounded bounds.now t) log.now) }
     ensures asked { recorder.new.asked ≡ recorder.old.asked }
-    ensures answered { IfOk result (λ views. FromAnswers recorder.old.log recorder.new.log (λ t. IsAsGood bounds.now (interface_of sound.now.properties sound.now.parts) (unit_model sound.now.tree) views (shown_by wanted.now (bounded bounds.now t)))) }
+    ensures kept { IfOk result (λ shown. IsTrue shown.known_kept → is_kept bounds.now.unit shown.views (interface_of sound.now.properties sound.now.parts) (unit_model sound.now.tree) ≡ true) }
+    ensures answered { IfOk result (λ shown. FromAnswers recorder.old.log recorder.new.log (λ t. IsAsGood bounds.now (interface_of sound.now.properties sound.now.parts) (unit_model sound.now.tree) shown.views (shown_by wanted.now (bounded bounds.now t)))) }
     ensures asks { OnOk result (AsksOf bounds.now.known (allowed bounds.now) recorder.old.log recorder.new.log) }
     ensures others { OnOk result (AsksOthers bounds.now.unit recorder.old.log → AsksOthers bounds.now.unit recorder.new.log) }
 {
     let recorded = recorded_views(alloc, wanted, log)?;
     let kept = is_kept(alloc, &bounds.unit, recorded.as_slice(), sound)?;
     if kept {
-        return Ok(recorded);
+        return Ok(ShownViews {
+            views: recorded,
+            known_kept: true,
+        });
     }
     drop(recorded);
-    asked_within(alloc, bounds, wanted, recorder)
+    let views = asked_within(alloc, bounds, wanted, recorder)?;
+    Ok(ShownViews {
+        views,
+        known_kept: false,
+    })
 }

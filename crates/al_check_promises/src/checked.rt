@@ -1,9 +1,9 @@
-// Results of a check, given only after they were tested.
-ghost use Rattle.std.specs.Prelude.{◌≡◌, ◌&&◌, IfOk, if◌then◌else◌};
+// Results that their own check has tested.
+ghost use Rattle.std.specs.Prelude.{◌≡◌, ◌&&◌, IfOk, IsTrue, true, if◌then◌else◌};
 ghost use Rattle.al_view_typed.specs.UnitTrees.{unit_model};
 ghost use Rattle.al_query_outcome.specs.Results.{checked_model, Faulty as Wrong, Sound};
 ghost use Rattle.al_query_outcome.specs.Tables.{interface_of};
-ghost use Rattle.al_check_promises.specs.SelfChecks.{not_checked, self_checked};
+ghost use Rattle.al_check_promises.specs.SelfChecks.{is_kept, not_checked, self_checked};
 
 use crate::faults::not_checked;
 use crate::tested::is_kept;
@@ -65,22 +65,39 @@ fn both_hold(kept: bool, complete: bool) -> bool
     kept && complete
 }
 
-/// The result of the check of a unit without errors, if it is what the check promises. It uses and shows links of other units only if `shown` shows
-/// them. Each of its own that it uses or shows is defined, left to its body, or the code of a stub. There is code for it. It completes what it must
-/// (`complete`, tested before). Else the result is E700: the unit can't be compiled yet.
-///
-/// # Errors
-/// `NoMemory` if the allocator refuses memory.
+/// Whether a result is what the check promises, which isn't tested once more where it is known.
+fn is_still_kept(
+    alloc: Global,
+    unit: &UnitKey,
+    shown: &[View],
+    known_kept: bool,
+    sound: &SoundUnit,
+) -> Result<bool, NoMemory>
+    requires { IsTrue known_kept → is_kept unit.now shown.now (interface_of sound.now.properties sound.now.parts) (unit_model sound.now.tree) ≡ true }
+    ensures { IfOk result (λ kept. kept ≡ is_kept unit.now shown.now (interface_of sound.now.properties sound.now.parts) (unit_model sound.now.tree)) }
+{
+    if known_kept {
+        return Ok(true);
+    }
+    is_kept(alloc, unit, shown, sound)
+}
+
+/// The result of a check in which no fault was found, where it is what the check promises: it uses and shows nothing of other units but
+/// what these views show; what it uses and shows of its own is defined, left to its body, or the code of a stub; there is code for it; and
+/// it completes what it must, as was tested before. Else E700, as something is compiled that can't be yet. Where it is known to be kept, that
+/// isn't tested once more.
 pub fn self_checked(
     alloc: Global,
     unit: &UnitKey,
     shown: &[View],
+    known_kept: bool,
     complete: bool,
     sound: SoundUnit,
 ) -> Result<Checked, NoMemory>
+    requires { IsTrue known_kept → is_kept unit.now shown.now (interface_of sound.properties sound.parts) (unit_model sound.tree) ≡ true }
     ensures { IfOk result (λ checked. checked_model checked ≡ self_checked unit.now shown.now complete (interface_of sound.properties sound.parts) (unit_model sound.tree)) }
 {
-    match is_kept(alloc, unit, shown, &sound) {
+    match is_still_kept(alloc, unit, shown, known_kept, &sound) {
         Ok(kept) => answered(alloc, unit, both_hold(kept, complete), sound),
         Err(error) => {
             drop(sound);

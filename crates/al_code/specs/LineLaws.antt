@@ -8,7 +8,7 @@ use Rattle.al_code.specs.Declarations.{declaration_form_code}
 use Rattle.al_code.specs.Marks.{declaration_has_code, has_code}
 use Rattle.al_code.specs.Statements.{statement_form_code}
 
--- those with some byte of code, by the tree, and no others
+-- the tree shows exactly which declarations and statements have code
 pub record TreesTellCode : Type 0 where
   pub statements : (r : Routine) (line : ℕ) (form : StatementFormTree) → has_code form ≡ nat_lt 0 (size (statement_form_code r line form))
   pub declarations : (depth : ℕ) (form : DeclarationFormTree) → declaration_has_code form ≡ nat_lt 0 (size (declaration_form_code depth form))

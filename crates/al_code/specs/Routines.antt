@@ -63,7 +63,7 @@ entry_call_code entry = one plain.Root ++ Using (instr.Call 0 0) (link EntryBody
 unfoldable pub barrier_code : ℕ → ObjectPlace → List Piece
 barrier_code depth barrier = place_code Data depth barrier ++ of_size sized.Load 1
 
--- those who wait at the entry are served if its barrier is open (ARM 9.5.3)
+-- callers that wait at the entry are served if its barrier is open (ARM 9.5.3)
 unfoldable pub served_code : ℕ → Symbol → Option EntryOf → List Piece
 served_code depth object None = []
 served_code depth object (Some e) =

@@ -10,7 +10,7 @@ use Rattle.al_view_predefined.specs.StandardTypes.{type_of}
 abbrev pub is_known : List TypeView → Symbol → Bool
 is_known types symbol = is_some (type_of types symbol)
 
--- those that aren't Standard's, which every unit has
+-- the types that aren't Standard's, which every unit has
 abbrev pub other_types : List TypeView → List TypeView
 other_types types = filter (λ of. not (is_known [] of.symbol)) types
 

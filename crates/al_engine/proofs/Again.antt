@@ -57,7 +57,7 @@ module _ (meaning : TextMeaning) (header : List ℕ → Header) (predefined : Qu
       ∙ ap (λ (o : Option Stored). or_else (is.made u) (if is_there lib u then o else None)) (sym (is.entries u))
 
   -- it checks nothing, gives the same, and leaves the entries as they are
-  rebuilt-again : IsRebuilt meaning header predefined lib main entries entries (record { compiled = rebuilt.compiled; checked = checked; compared = 0; patched = 0 })
+  rebuilt-again : IsRebuilt meaning header predefined lib main entries entries (record { compiled = rebuilt.compiled; checked = checked; compared = 0; patched = 0; earlier = rebuilt.earlier })
   rebuilt-again = record {
     made = is.made;
     rechecked = record {
@@ -74,11 +74,12 @@ module _ (meaning : TextMeaning) (header : List ℕ → Header) (predefined : Qu
     };
     is_batch = is.is_batch;
     entries = staying-again;
+    earlier = is.earlier;
   }
 
 -- the same result with another list of checked units, and no unit written
 abbrev pub gave_again : Rebuilt → List UnitKey → Rebuilt
-gave_again gave checked = record { compiled = gave.compiled; checked = checked; compared = 0; patched = 0 }
+gave_again gave checked = record { compiled = gave.compiled; checked = checked; compared = 0; patched = 0; earlier = gave.earlier }
 
 abbrev again : Built → List UnitKey → Built
 again b checked = record { files = b.files; main = b.main; gave = gave_again b.gave checked }

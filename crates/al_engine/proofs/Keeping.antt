@@ -1,5 +1,5 @@
 -- The partition that a build can use again.
-use Rattle.std.proofs.Common.{◌≡◌, ℕ, true, List, [], ◌∷◌, ◌++◌, map, Option, Some, None, IfSome, is_some, refl, sym, ap, subst, ◌∙◌, if◌then◌else◌}
+use Rattle.std.proofs.Common.{◌≡◌, Bor, ℕ, true, List, [], ◌∷◌, ◌++◌, map, Option, Some, None, IfSome, is_some, refl, sym, ap, subst, ◌∙◌, if◌then◌else◌}
 use Rattle.std.specs.Prelude.{MatchOption}
 use Rattle.std.specs.Option.{option_map}
 use Rattle.std.specs.List.{Contains, flat_map}
@@ -24,6 +24,8 @@ use Rattle.al_engine.specs.BatchRenewals.{HoldsPartition, KeepsPartition}
 use Rattle.al_engine.specs.declared.compiled.Compiled.{Compiled}
 use Rattle.al_engine.specs.declared.compiled.Compiled.TheVariants.{Faulty, Unbound, TooLarge, Made}
 use Rattle.al_engine.specs.declared.compiled.Program.{Program}
+use Rattle.al_engine.specs.Earlier.{KeepsEarlier}
+use Rattle.al_engine.specs.declared.earlier.Earlier.{Earlier}
 use Rattle.al_engine.specs.Rebuilds.{IsRebuilt}
 use Rattle.al_engine.specs.declared.rebuilding.Rebuilt.{Rebuilt}
 
@@ -70,6 +72,17 @@ module _ (old new : Library) (one : HaveOneGraph old new) where
     is.1,
   )
 
+  keeps-stay : (f : UnitKey → Option Outcome) (main : List ℕ) (compiled : Compiled) → KeepsPartition old f main compiled → KeepsPartition new f main compiled
+  keeps-stay f main (Faulty diagnostics) is = tt
+  keeps-stay f main (Unbound fault) is = tt
+  keeps-stay f main (TooLarge order) is = tt
+  keeps-stay f main (Made program) is = partition-stays f main program is
+
+  -- so does what is kept of an earlier build
+  earlier-stays : (f : UnitKey → Option Outcome) (earlier : Option Earlier) → KeepsEarlier old f earlier → KeepsEarlier new f earlier
+  earlier-stays f None is = tt
+  earlier-stays f (Some k) is = record { outcomes = is.outcomes; others = is.others; sound = is.sound; keeps = keeps-stay is.outcomes k.main k.compiled is.keeps }
+
   -- what compiling gave holds the partition of a library with the same headers, by the same outcomes
   batch-keeps : (f : UnitKey → Option Outcome) (main : List ℕ) (compiled : Compiled) → IsBatch old f main compiled → KeepsPartition new f main compiled
   batch-keeps f main (Faulty diagnostics) is = tt
@@ -79,10 +92,10 @@ module _ (old new : Library) (one : HaveOneGraph old new) where
 
 -- if the build reached each unit, these are the outcomes of the entries that there are
 pub entries-keep : (meaning : TextMeaning) (header : List ℕ → Header) (pre : Query → AnswerKind) (lib : Library) (main : List ℕ) (before entries : UnitKey → Option Stored) (gave : Rebuilt) (is : IsRebuilt meaning header pre lib main before entries gave) → ((w : UnitKey) → entries w ≡ is.made w)
-    → (new : Library) → HaveOneGraph lib new → KeepsPartition new (results_of entries) main gave.compiled
+    → (new : Library) → HaveOneGraph lib new → KeepsPartition new (results_of entries) main gave.compiled × KeepsEarlier new (results_of entries) gave.earlier
 entries-keep meaning header pre lib main before entries gave is made new one =
-    subst (λ (at : UnitKey → Option Stored). KeepsPartition new (results_of at) main gave.compiled) (λ i w. sym (made w) i)
-    (batch-keeps lib new one (results_of is.made) main gave.compiled is.is_batch)
+    subst (λ (at : UnitKey → Option Stored). KeepsPartition new (results_of at) main gave.compiled × KeepsEarlier new (results_of at) gave.earlier) (λ i w. sym (made w) i)
+    (batch-keeps lib new one (results_of is.made) main gave.compiled is.is_batch, earlier-stays lib new one (results_of is.made) gave.earlier is.earlier)
 
 -- what holds if there is an element
 pub some-is : {X : Type 0} (o : Option X) (P : Type 0) → P → IfSome o (λ _. P)
@@ -94,3 +107,8 @@ pub partition-for : {X U : Type 0} (unit : Option U) (same : Option X) (main_of 
 partition-for None same main_of main K is has = tt
 partition-for (Some u) None main_of main K is has = absurd is
 partition-for (Some u) (Some b) main_of main K is has = subst K is has
+
+pub partition-of-last : {X U : Type 0} (unit : Option U) (same : Option X) (main_of : X → List ℕ) (last : Option (Bor (List ℕ))) (K : List ℕ → Type 0) → IfSome last (λ m. MatchOption same ⊥ (λ b. main_of b ≡ m.now)) → IfSome unit (λ _. IfSome same (λ b. K (main_of b)))
+    → IfSome last (λ m. IfSome unit (λ _. K m.now))
+partition-of-last unit same main_of None K is has = tt
+partition-of-last unit same main_of (Some m) K is has = partition-for unit same main_of m.now K is has

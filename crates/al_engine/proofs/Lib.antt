@@ -4,6 +4,7 @@ mod BuiltLemmas
 pub mod Closing
 pub mod Completing
 mod Defined
+pub mod EarlierLemmas
 mod EditedThere
 pub mod Entries
 pub mod ExchangeLemmas

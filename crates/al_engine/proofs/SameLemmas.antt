@@ -22,6 +22,7 @@ module _ (meaning : TextMeaning) (header : List ℕ → Header) (pre : Query →
       rechecked = is.rebuilt.rechecked;
       is_batch = is.rebuilt.is_batch;
       entries = λ u. settled-same old new same u ∙ is.rebuilt.entries u;
+      earlier = is.rebuilt.earlier;
     };
     reached = λ u. before-same old new same u ∙ is.reached u;
   }

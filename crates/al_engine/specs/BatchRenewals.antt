@@ -1,10 +1,11 @@
 -- What a build can use again of the partition of the last build.
-use Rattle.std.specs.Prelude.{ℕ, ⊤, List, map, Option, if◌then◌else◌}
+use Rattle.std.specs.Prelude.{ℕ, ◌≡◌, true, false, ⊤, List, map, Option, if◌then◌else◌}
 use Rattle.al_base.specs.Batch.{key_of}
 use Rattle.al_base.specs.declared.unit_key.UnitKey.{UnitKey}
 use Rattle.al_unit_graph.specs.Headers.{Library}
 use Rattle.al_view.specs.Symbols.{same_unit}
 use Rattle.al_query_outcome.specs.Defines.{main_symbol}
+use Rattle.al_query_outcome.specs.Equations.{is_sound}
 use Rattle.al_query_outcome.specs.Results.{Outcome}
 use Rattle.al_engine.specs.Links.{IsHeld}
 use Rattle.al_engine.specs.Objects.{WithObject}
@@ -25,6 +26,13 @@ KeepsPartition lib f main (Faulty diagnostics) = ⊤
 KeepsPartition lib f main (Unbound fault) = ⊤
 KeepsPartition lib f main (TooLarge order) = ⊤
 KeepsPartition lib f main (Made program) = HoldsPartition lib f main program
+
+-- this held of it when the units had other outcomes than these, but only of one unit, in which no error was found then
+pub record KeepsBut (lib : Library) (f : UnitKey → Option Outcome) (main : List ℕ) (unit : UnitKey) (compiled : Compiled) : Type 0 where
+  pub outcomes : UnitKey → Option Outcome
+  pub others : (w : UnitKey) → same_unit unit w ≡ false → f w ≡ outcomes w
+  pub sound : is_sound (outcomes unit) ≡ true
+  pub keeps : KeepsPartition lib outcomes main compiled
 
 -- a unit with its object, replaced by x if that is the same unit
 abbrev pub renewed_one : WithObject → WithObject → WithObject

@@ -3,6 +3,7 @@ pub mod BatchRenewals
 pub mod Batches
 pub mod Builds
 pub mod Completing
+pub mod Earlier
 pub mod Edits
 pub mod Gave
 pub mod GraphGraphs

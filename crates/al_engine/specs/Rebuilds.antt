@@ -14,15 +14,18 @@ use Rattle.al_engine_refresh.specs.Stored.{Stored, log_of}
 use Rattle.al_engine_refresh.specs.Staying.{is_there, staying}
 use Rattle.al_engine.specs.Rechecks.{AreReady, IsRechecked, setting_of}
 use Rattle.al_engine.specs.Batches.{IsBatch, IsCompiled}
+use Rattle.al_engine.specs.Earlier.{KeepsEarlier}
 use Rattle.al_engine.specs.declared.rebuilding.Rebuilt.{Rebuilt}
 
 -- the units that it checked and the entries that it made over those of before; the result of compiling for the main unit with the
--- outcomes in these entries; and which entries there are then
+-- outcomes in these entries; which entries there are then; and what is kept for the next build
 pub record IsRebuilt (meaning : TextMeaning) (header : List ℕ → Header) (predefined : Query → AnswerKind) (lib : Library) (main : List ℕ) (old new : UnitKey → Option Stored) (rebuilt : Rebuilt) : Type 0 where
   pub made : UnitKey → Option Stored
   pub rechecked : IsRechecked meaning header (setting_of header predefined lib) old made rebuilt.checked
   pub is_batch : IsBatch lib (results_of made) main rebuilt.compiled
   pub entries : (u : UnitKey) → new u ≡ staying lib old made u
+  -- the program that is kept behind a build that found errors
+  pub earlier : KeepsEarlier lib (results_of made) rebuilt.earlier
 
 -- a build gives what compiling from nothing gives, whatever entries there were before
 abbrev pub RebuildsAreCompiled : Type 0

@@ -20,7 +20,7 @@ ghost use Rattle.al_engine.specs.Graphs.{AreElaborations};
 ghost use Rattle.al_engine.specs.States.{AreReadFor, IsSettledBy};
 
 use crate::edits::edited_now;
-use crate::graphs::{alike, graph_now, is_same_main, order_now, orders_now};
+use crate::graphs::{alike, graph_now, main_of, order_now, orders_now};
 use crate::last_build::LastBuild;
 use crate::orders::KnownOrder;
 use crate::read_files::ReadFiles;
@@ -65,7 +65,7 @@ fn begin<R: ReadFiles, C: UnitCheck, P: Answers>(
     requires edited { IfSome edited (λ e. IfSome last.now (λ b. HaveSameHeaders (R.library (R.files b.read)) (R.library (R.files read.now)) × HaveTextsBut (R.library (R.files b.read)) (R.library (R.files read.now)) e)) }
     ensures graph { IfOk result (λ b. IsGraphOf (R.library (R.files read.now)) b.graph.value) }
     ensures orders { IfOk result (λ b. AreElaborations (R.library (R.files read.now)) (map (λ o. o.value) b.orders.items)) }
-    ensures prepared { IfOk result (λ b. IsPrepared C.meaning C.Text.header (P.table predefined.now) (R.library (R.files read.now)) main.now gave.now.compiled cache.old.store b.prepared.planned cache.new.store b.prepared.checked.items b.prepared.compared) }
+    ensures prepared { IfOk result (λ b. IsPrepared C.meaning C.Text.header (P.table predefined.now) (R.library (R.files read.now)) main.now gave.now cache.old.store b.prepared.base b.prepared.planned cache.new.store b.prepared.checked.items b.prepared.compared) }
     ensures counted { IfOk result (λ b. C.count cache.new.checker ≡ raised (C.count cache.old.checker) (length b.prepared.checked.items)) }
     ensures left { IsLeft cache.old.store cache.new.store }
 {
@@ -77,20 +77,11 @@ fn begin<R: ReadFiles, C: UnitCheck, P: Answers>(
     let (edits, is_clean) = known;
     let standing = Standing {
         is_clean,
-        has_partition: is_same_main(main, same),
+        main: main_of(same),
     };
     let sources = read.sources();
     let prepared = prepare(
-        alloc,
-        cache,
-        predefined,
-        sources,
-        main,
-        &graph,
-        order,
-        &edits,
-        standing,
-        &gave.compiled,
+        alloc, cache, predefined, sources, main, &graph, order, &edits, standing, gave,
     )?;
     let orders = orders_now(alloc, main, read, same, order.is_some(), &prepared.planned)?;
     Ok(Begun {

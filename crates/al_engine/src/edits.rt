@@ -15,6 +15,7 @@ ghost use Rattle.al_engine.specs.Texts.{HaveTextsBut};
 ghost use Rattle.al_engine_refresh.specs.Settings.{ArePredefined};
 ghost use Rattle.al_engine.specs.RecheckEdits.{AreEdits, IsForAnother, units_of};
 ghost use Rattle.al_engine.specs.BatchRenewals.{KeepsPartition};
+ghost use Rattle.al_engine.specs.Earlier.{KeepsEarlier};
 ghost use Rattle.al_engine.specs.Renewed.{IsCleanBut};
 ghost use Rattle.al_engine.specs.Edits.{AreEditedIn, AreIn, HasReachedAll, Holds, IsEdited};
 ghost use Rattle.al_engine.specs.States.{AreReadFor, IsSettledBy};
@@ -171,7 +172,7 @@ pub(crate) fn edited_now<R: ReadFiles, C: UnitCheck, P: Answers>(
     requires texts { IfSome same (λ b. HaveTextsBut (R.library (R.files b.now.read)) (R.library (R.files read.now)) edited.now) }
     ensures renewable { IfOk result (λ found. IfSome found.0 (λ edits. AreEdits C.meaning C.Text.header (P.table predefined.now) (R.library (R.files read.now)) cache.now.store edits.items)) }
     ensures clean { IfOk result (λ found. IsTrue found.1 → IfSome found.0 (λ edits. IsCleanBut (R.library (R.files read.now)) (settled_at cache.now.store) (units_of edits.items))) }
-    ensures partition { IfOk result (λ found. IfSome found.0 (λ _. IfSome same.entry (λ b. KeepsPartition (R.library (R.files read.now)) (results_of (settled_at cache.now.store)) b.now.main gave.now.compiled))) }
+    ensures kept { IfOk result (λ found. IfSome found.0 (λ _. IfSome same.entry (λ b. KeepsPartition (R.library (R.files read.now)) (results_of (settled_at cache.now.store)) b.now.main gave.now.compiled × KeepsEarlier (R.library (R.files read.now)) (results_of (settled_at cache.now.store)) gave.now.earlier))) }
 {
     order_is_for_builds();
     graphs_go_by_headers();

@@ -124,13 +124,13 @@ pub(crate) fn order_now<'a, R: ReadFiles>(
     order_of(build.orders.as_slice(), main)
 }
 
-/// Whether the last build, whose files have the same graph, was of this main unit.
-pub(crate) fn is_same_main<R>(main: &[u8], alike: Option<&LastBuild<R>>) -> bool
-    ensures { IsTrue result → MatchOption alike.entry ⊥ (λ b. b.now.main ≡ main.now) }
+/// The main unit of the last build, if its files have the same graph.
+pub(crate) fn main_of<R>(alike: Option<&LastBuild<R>>) -> Option<&[u8]>
+    ensures { IfSome result (λ main. MatchOption alike.entry ⊥ (λ b. b.now.main ≡ main.now)) }
 {
     match alike {
-        Some(build) => build.main.as_slice() == main,
-        None => false,
+        Some(build) => Some(build.main.as_slice()),
+        None => None,
     }
 }
 

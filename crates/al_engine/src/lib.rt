@@ -14,6 +14,7 @@
 //!   edited.
 //! - `kept_units`, `checking`, `rechecking`, `renewing`, `walking` and `sorted`: the entries, and which units a build checks.
 //! - `planning`, `planned`, `batch_renewing`, `orders`, `placing`, `objects` and `names`: what is to be linked. `linking` and `compiled`: the image.
+//! - `earlier` and `concluding`: what is kept of an earlier build behind builds that found errors.
 //! - `rebuilding`, `building` and `last_build`: a whole build. `engine`, `gave` and `answer`: the library and what it reports.
 //! - `laws` and the modules whose names end in `_laws`: what is proved of all builds.
 #![tactic(auto)]
@@ -27,6 +28,8 @@ mod checking;
 pub mod closed_laws;
 pub mod code_symbols_laws;
 mod compiled;
+mod concluding;
+mod earlier;
 mod edited;
 mod edits;
 mod engine;
@@ -62,12 +65,12 @@ pub use answer::{BuildAnswer, answer_of};
 pub use batch_renewing::renewed;
 pub use checking::check_library;
 pub use compiled::{Compiled, Program};
+pub use earlier::{Base, Earlier};
 pub use edited::EditedUnit;
 pub use engine::Engine;
 pub use gave::{diagnostics_of, files_reported, order_of, program_of};
 pub use graph::UnitGraph;
 pub use kept_units::UnitCache;
-pub use linking::link;
 pub use placing::placed;
 pub use planned::{Partition, Planned, Renewal};
 pub use planning::plan;

@@ -146,7 +146,7 @@ fn program_of(
 }
 
 /// The program of a partition, or only its order if the image would pass a limit.
-fn link_partition(
+pub(crate) fn link_partition(
     alloc: Global,
     partition: Partition,
     compiled: &mut Compiled,
@@ -228,7 +228,11 @@ fn renewed_again(
 
 /// The program of a partition in the place of the one before, from which it differs in one unit's object; or only its order if the image would pass a
 /// limit. Nothing is done if compiling gave no program before.
-fn link_renewed(alloc: Global, renewal: Renewal, compiled: &mut Compiled) -> Result<usize, NoMemory>
+pub(crate) fn link_renewed(
+    alloc: Global,
+    renewal: Renewal,
+    compiled: &mut Compiled,
+) -> Result<usize, NoMemory>
     requires { IsClosedRenewal compiled.old renewal }
     ensures linked { OnOk result (IsLinkedOver renewal compiled.old compiled.new) }
     ensures patched { IfOk result (IsPatched (linked_in compiled.old) (linked_in compiled.new)) }
@@ -250,32 +254,4 @@ fn link_renewed(alloc: Global, renewal: Renewal, compiled: &mut Compiled) -> Res
     let order = std::mem::replace(&mut program.order, Vec::new(alloc));
     *compiled = Compiled::TooLarge(order);
     Ok(0)
-}
-
-/// Replaces the result of compiling by that of the plan. If there was an image and is one, it is linked again in its place: if the units are as
-/// before in their lengths, counts, symbols and lines, only what differs is written. Gives the number of units whose code was written: those that
-/// differ if all is as before except for bytes, else all; 0 if there was no image or is none. What is to be linked defines the main subprogram's code
-/// and all that its units use.
-///
-/// # Errors
-///
-/// `NoMemory` if the allocator refuses memory: everything is then as before.
-pub fn link(alloc: Global, planned: Planned, compiled: &mut Compiled) -> Result<usize, NoMemory>
-    requires closed { IsClosedPlan compiled.old planned }
-    ensures batch { OnOk result ((lib : Library) (f : UnitKey → Option Outcome) (main : List ℕ) → IsPlanned lib f main compiled.old planned → IsBatch lib f main compiled.new) }
-    ensures patched { IfOk result (IsPatched (linked_in compiled.old) (linked_in compiled.new)) }
-    ensures err { OnErr result (compiled.new ≡ compiled.old) }
-{
-    match planned {
-        Planned::Faulty(found) => {
-            *compiled = Compiled::Faulty(found);
-            Ok(0)
-        }
-        Planned::Unbound(fault) => {
-            *compiled = Compiled::Unbound(fault);
-            Ok(0)
-        }
-        Planned::Linkable(partition) => link_partition(alloc, partition, compiled),
-        Planned::Renewed(renewal) => link_renewed(alloc, renewal, compiled),
-    }
 }

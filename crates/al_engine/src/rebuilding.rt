@@ -7,7 +7,6 @@ ghost use Rattle.al_base.specs.declared.unit_key.UnitKey.{UnitKey};
 ghost use Rattle.al_bind.specs.Binding.{IsElaboration};
 ghost use Rattle.al_unit_faults.specs.FilesSeen.{file_faults_model};
 ghost use Rattle.al_unit_faults.specs.GraphFaults.{file_faults};
-ghost use Rattle.al_view.specs.Symbols.{same_unit};
 ghost use Rattle.al_query.specs.Known.{has_unit};
 ghost use Rattle.al_unit_graph.specs.Headers.{Header, Library};
 ghost use Rattle.al_unit_faults.specs.Read.{AreHeaded, NameParentBodies};
@@ -25,16 +24,18 @@ ghost use Rattle.al_engine.specs.Objects.{AreCoded};
 ghost use Rattle.al_engine.specs.Patches.{IsPatched, linked_in};
 ghost use Rattle.al_engine.specs.Plans.{IsClosedPlan, IsPlanned};
 ghost use Rattle.al_engine.specs.BatchRenewals.{KeepsPartition};
+ghost use Rattle.al_engine.specs.Earlier.{IsBase, IsBehind, KeepsEarlier, base_at, over};
 ghost use Rattle.al_engine.specs.Rechecks.{AreReady, will_be};
 ghost use Rattle.al_engine.specs.RecheckEdits.{AreEdits, units_of};
 ghost use Rattle.al_engine.specs.Prepared.{IsPrepared};
 ghost use Rattle.al_engine.specs.Rebuilds.{IsKept, IsRebuilt};
 ghost use Rattle.al_engine.specs.Renewed.{IsCleanBut};
 
+use crate::batch_renewing::base_of;
 use crate::closed_laws::partitions_are_closed;
-use crate::{
-    Compiled, EditedUnit, Planned, UnitCache, UnitGraph, check_library, link, plan, renewed,
-};
+use crate::concluding::conclude;
+use crate::earlier::{Base, Earlier};
+use crate::{Compiled, EditedUnit, Planned, UnitCache, UnitGraph, check_library, plan, renewed};
 use al_base::{NoMemory, UnitKey};
 use al_engine_refresh::{KeptEntries, has_sound};
 use al_query::Answers;
@@ -54,6 +55,8 @@ pub struct Rebuilt {
     pub compared: usize,
     /// The number of units whose code was written into the image of the build before.
     pub patched: usize,
+    /// The program of an earlier build, if this one gave no image, and one unit alone was edited since that one.
+    pub earlier: Option<Earlier>,
 }
 
 impl Drop for Rebuilt {
@@ -63,6 +66,7 @@ impl Drop for Rebuilt {
             checked: _,
             compared: _,
             patched: _,
+            earlier: _,
         } = self;
     }
 }
@@ -77,23 +81,38 @@ impl Rebuilt {
             checked: Seq::empty(alloc),
             compared: 0,
             patched: 0,
+            earlier: None,
+        }
+    }
+
+    /// The earlier result, if it is the one in question and is there, or else the last one.
+    fn base(&self, is_earlier: bool) -> &Compiled
+        ensures { result.now ≡ base_at self.now is_earlier }
+    {
+        if !is_earlier {
+            return &self.compiled;
+        }
+        match &self.earlier {
+            Some(earlier) => &earlier.compiled,
+            None => &self.compiled,
         }
     }
 }
 
 /// How the last build relates to this one, apart from the edited units.
 #[derive(Clone, Copy)]
-pub struct Standing {
+pub struct Standing<'a> {
     /// It found errors only in the edited units.
     pub is_clean: bool,
-    /// It was of this main unit.
-    pub has_partition: bool,
+    /// Its main unit, if its files have the same graph.
+    pub main: Option<&'a [u8]>,
 }
 
-/// A build that is done except for the image: what is to be linked, the units that were checked, by unit and kind, and how many stored answers were
-/// compared.
+/// A build that is done except for the image: what is to be linked, from which result it goes on, the units that were checked, by unit and kind, and
+/// how many stored answers were compared.
 pub struct PreparedBuild {
     pub planned: Planned,
+    pub base: Option<Base>,
     pub checked: Vec<UnitKey>,
     pub compared: usize,
 }
@@ -102,6 +121,7 @@ impl Drop for PreparedBuild {
     fn drop(self) {
         let PreparedBuild {
             planned: _,
+            base: _,
             checked: _,
             compared: _,
         } = self;
@@ -130,11 +150,11 @@ fn are_sound(entries: &KeptEntries, edits: &[EditedUnit]) -> bool
 }
 
 /// Whether only some units have other entries than before, these have no errors, and there were no others before.
-fn is_clean(entries: &KeptEntries, standing: Standing, renewed: Option<&[EditedUnit]>) -> bool
-    ensures clean { IsTrue result → IsTrue standing.is_clean }
+fn is_clean(entries: &KeptEntries, was_clean: bool, renewed: Option<&[EditedUnit]>) -> bool
+    ensures clean { IsTrue result → IsTrue was_clean }
     ensures sound { IsTrue result → MatchOption renewed.entry ⊥ (λ edits. (u : UnitKey) → has_unit (units_of edits.now) u ≡ true → is_sound (results_of (now_at entries.now) u) ≡ true) }
 {
-    if !standing.is_clean {
+    if !was_clean {
         return false;
     }
     match renewed {
@@ -156,35 +176,63 @@ fn alone_in(renewed: Option<&[EditedUnit]>) -> Option<&UnitKey>
     }
 }
 
-/// What is to be linked if exactly one unit has another entry than before and no errors, and the last build has the partition: everything is as in
-/// that build except for that unit's object. `None` if that isn't so.
+/// What is to be linked if one unit alone has another entry than in the result from which a build goes on, and the files have no errors: everything is
+/// as then except for that unit's object. `None` if that isn't so.
 fn renewed_plan(
     alloc: Global,
     sources: &Sources,
     entries: &KeptEntries,
     main: &[u8],
-    has_partition: bool,
-    unit: Option<&UnitKey>,
-    before: &Compiled,
+    base: &Option<Base>,
+    gave: &Rebuilt,
 ) -> Result<Option<Planned>, NoMemory>
     requires coded { AreCoded (now_at entries.now) }
     requires clean { findings_of sources.now (results_of (now_at entries.now)) ≡ [] }
-    requires others { IfSome unit (λ u. (w : UnitKey) → same_unit u.now w ≡ false → now_at entries.now w ≡ settled_at entries.now w) }
-    requires partition { IsTrue has_partition → IfSome unit (λ _. KeepsPartition sources.now (results_of (settled_at entries.now)) main.now before.now) }
-    ensures { IfOk result (λ found. IfSome found (IsPlanned sources.now (results_of (now_at entries.now)) main.now before.now)) }
+    requires base { IfSome base.now (IsBase sources.now (results_of (now_at entries.now)) gave.now) }
+    ensures { IfOk result (λ found. IfSome found (IsPlanned sources.now (results_of (now_at entries.now)) main.now (over gave.now base.now))) }
 {
-    match unit {
-        Some(unit) => if has_partition {
-            renewed(alloc, sources, entries, main, before, unit)
-        } else {
-            Ok(None)
-        },
-        None => Ok(None),
+    let Some(base) = base else {
+        return Ok(None);
+    };
+    if base.main.as_slice() != main {
+        return Ok(None);
     }
+    let before = gave.base(base.is_earlier);
+    renewed(alloc, sources, entries, main, before, &base.unit)
 }
 
-/// The result of compiling the files for a main unit, up to the image, as `plan` gives it. If only some units have other entries than before, and no
-/// errors, then errors aren't looked for; if it is one unit, the result of the last build is used again.
+/// The result of compiling the files for a main unit, up to the image, as `plan` gives it, over the result from which a build goes on. If it is known
+/// that there are no errors, they aren't looked for.
+fn plan_over(
+    alloc: Global,
+    sources: &Sources,
+    entries: &KeptEntries,
+    faults: &[FileFaults],
+    main: &[u8],
+    known: Option<&[UnitKey]>,
+    is_clean: bool,
+    base: &Option<Base>,
+    gave: &Rebuilt,
+) -> Result<Planned, NoMemory>
+    requires faults { map file_faults_model faults.now ≡ map (λ file. (file, file_faults sources.now file)) (keys_of sources.now) }
+    requires coded { AreCoded (now_at entries.now) }
+    requires known { IfSome known (λ order. IsElaboration sources.now main.now (map key_of order.now)) }
+    requires clean { IsTrue is_clean → findings_of sources.now (results_of (now_at entries.now)) ≡ [] }
+    requires base { IfSome base.now (IsBase sources.now (results_of (now_at entries.now)) gave.now) }
+    ensures { IfOk result (IsPlanned sources.now (results_of (now_at entries.now)) main.now (over gave.now base.now)) }
+{
+    if is_clean {
+        let found = renewed_plan(alloc, sources, entries, main, base, gave)?;
+        if let Some(planned) = found {
+            return Ok(planned);
+        }
+    }
+    let planned = plan(alloc, sources, entries, faults, main, known, is_clean)?;
+    Ok(planned)
+}
+
+/// The result of compiling the files for a main unit, up to the image, and the result from which the build goes on. If only some units have other
+/// entries than before, and no errors, then errors aren't looked for; if it is one unit, an earlier result is used again.
 fn plan_now(
     alloc: Global,
     sources: &Sources,
@@ -193,33 +241,30 @@ fn plan_now(
     main: &[u8],
     known: Option<&[UnitKey]>,
     edits: Option<&[EditedUnit]>,
-    standing: Standing,
-    before: &Compiled,
-) -> Result<Planned, NoMemory>
+    standing: Standing<'_>,
+    gave: &Rebuilt,
+) -> Result<(Planned, Option<Base>), NoMemory>
     requires faults { map file_faults_model faults.now ≡ map (λ file. (file, file_faults sources.now file)) (keys_of sources.now) }
     requires coded { AreCoded (now_at entries.now) }
     requires known { IfSome known (λ order. IsElaboration sources.now main.now (map key_of order.now)) }
     requires clean { IsTrue standing.is_clean → MatchOption edits ⊥ (λ e. (u : UnitKey) → has_unit (units_of e.now) u ≡ true → is_sound (results_of (now_at entries.now) u) ≡ true) → findings_of sources.now (results_of (now_at entries.now)) ≡ [] }
     requires others { IfSome edits (λ e. (w : UnitKey) → has_unit (units_of e.now) w ≡ false → now_at entries.now w ≡ settled_at entries.now w) }
-    requires partition { IsTrue standing.has_partition → IfSome edits (λ _. KeepsPartition sources.now (results_of (settled_at entries.now)) main.now before.now) }
-    ensures { IfOk result (IsPlanned sources.now (results_of (now_at entries.now)) main.now before.now) }
+    requires kept { IfSome standing.main (λ last. IfSome edits (λ _. KeepsPartition sources.now (results_of (settled_at entries.now)) last.now gave.now.compiled × KeepsEarlier sources.now (results_of (settled_at entries.now)) gave.now.earlier)) }
+    ensures planned { IfOk result (λ p. IsPlanned sources.now (results_of (now_at entries.now)) main.now (over gave.now p.1) p.0) }
+    ensures base { IfOk result (λ p. IfSome p.1 (IsBase sources.now (results_of (now_at entries.now)) gave.now)) }
 {
-    let clean = is_clean(entries, standing, edits);
-    if clean {
-        let unit = alone_in(edits);
-        let has_partition = standing.has_partition;
-        let found = renewed_plan(alloc, sources, entries, main, has_partition, unit, before)?;
-        if let Some(planned) = found {
-            return Ok(planned);
-        }
-    }
-    let planned = plan(alloc, sources, entries, faults, main, known, clean)?;
-    Ok(planned)
+    let clean = is_clean(entries, standing.is_clean, edits);
+    let unit = alone_in(edits);
+    let base = base_of(alloc, sources, entries, standing.main, unit, gave)?;
+    let planned = plan_over(
+        alloc, sources, entries, faults, main, known, clean, &base, gave,
+    )?;
+    Ok((planned, base))
 }
 
 /// Does everything of a build of a main unit except its image: it checks each unit that is reached and has no entry for its source, or one with an
 /// answer that differs now, and compiles what all units give then. `graph` is the library's graph, and `known` the order of elaboration, if that is
-/// known. `edited` are the only edited units since a build that reached each unit, `standing` says how that build relates to this one, and `before`
+/// known. `edited` are the only edited units since a build that reached each unit, `standing` says how that build relates to this one, and `gave`
 /// is its result. The entries of the last build are unchanged.
 /// - `prepared`: which units were checked, the result of compiling up to the image, and which entries there will be. If there is something to link,
 ///   its units define the main subprogram's code and all that they use.
@@ -237,8 +282,8 @@ pub fn prepare<C: UnitCheck, P: Answers>(
     graph: &UnitGraph,
     known: Option<&[UnitKey]>,
     edited: &Option<Vec<EditedUnit>>,
-    standing: Standing,
-    before: &Compiled,
+    standing: Standing<'_>,
+    gave: &Rebuilt,
 ) -> Result<PreparedBuild, NoMemory>
     requires headed { AreHeaded C.Text.header sources.now }
     requires bodies { NameParentBodies sources.now }
@@ -248,8 +293,8 @@ pub fn prepare<C: UnitCheck, P: Answers>(
     requires ready { AreReady (P.table predefined.now) cache.old.store }
     requires edited { IfSome edited.now (λ edits. AreEdits C.meaning C.Text.header (P.table predefined.now) sources.now cache.old.store edits.items) }
     requires clean { IsTrue standing.is_clean → IfSome edited.now (λ edits. IsCleanBut sources.now (settled_at cache.old.store) (units_of edits.items)) }
-    requires partition { IsTrue standing.has_partition → IfSome edited.now (λ _. KeepsPartition sources.now (results_of (settled_at cache.old.store)) main.now before.now) }
-    ensures prepared { IfOk result (λ p. IsPrepared C.meaning C.Text.header (P.table predefined.now) sources.now main.now before.now cache.old.store p.planned cache.new.store p.checked.items p.compared) }
+    requires kept { IfSome standing.main (λ last. IfSome edited.now (λ _. KeepsPartition sources.now (results_of (settled_at cache.old.store)) last.now gave.now.compiled × KeepsEarlier sources.now (results_of (settled_at cache.old.store)) gave.now.earlier)) }
+    ensures prepared { IfOk result (λ p. IsPrepared C.meaning C.Text.header (P.table predefined.now) sources.now main.now gave.now cache.old.store p.base p.planned cache.new.store p.checked.items p.compared) }
     ensures counted { IfOk result (λ p. C.count cache.new.checker ≡ raised (C.count cache.old.checker) (length p.checked.items)) }
     ensures left { IsLeft cache.old.store cache.new.store }
 {
@@ -259,19 +304,21 @@ pub fn prepare<C: UnitCheck, P: Answers>(
     let (checked, compared) = given.into_parts();
     let faults = graph.faults.as_slice();
     let entries = cache.entries();
-    let planned = plan_now(
-        alloc, sources, entries, faults, main, known, edits, standing, before,
+    let found = plan_now(
+        alloc, sources, entries, faults, main, known, edits, standing, gave,
     )?;
+    let (planned, base) = found;
     Ok(PreparedBuild {
         planned,
+        base,
         checked,
         compared,
     })
 }
 
 impl PreparedBuild {
-    /// Ends a build. The image is the last thing that takes memory: it is linked in the place of the last build's, if that gave one. Then the build's
-    /// entries are settled, whether the files have errors or not.
+    /// Ends a build. The image is the last thing that takes memory: it is linked in the place of the last build's, if that gave one, or in that of the
+    /// earlier one, if the build goes on from it. Then the build's entries are settled, whether the files have errors or not.
     /// - `rebuilt`: which units were checked, the result of compiling, which entries there are then, and how many stored answers were compared.
     /// - `patched`: the number of units whose code was written into the image.
     ///
@@ -286,8 +333,9 @@ impl PreparedBuild {
         gave: &mut Rebuilt,
     ) -> Result<(), NoMemory>
         requires law { AllKeepLaw C.meaning C.Text.header (will_be cache.old.store) }
-        requires closed { IsClosedPlan gave.old.compiled self.planned }
-        ensures rebuilt { OnOk result ((header : List ℕ → Header) (predefined : Query → AnswerKind) (lib : Library) (main : List ℕ) (old : Entries) → IsLeft old cache.old.store → IsPrepared C.meaning header predefined lib main gave.old.compiled old self.planned cache.old.store self.checked.items self.compared → (is : IsRebuilt C.meaning header predefined lib main (settled_at old) (settled_at cache.new.store) gave.new) × IsKept predefined lib old cache.new.store is.made gave.new) }
+        requires closed { IsClosedPlan (over gave.old self.base) self.planned }
+        requires behind { IfSome self.base (IsBehind gave.old) }
+        ensures rebuilt { OnOk result ((header : List ℕ → Header) (predefined : Query → AnswerKind) (lib : Library) (main : List ℕ) (old : Entries) → IsLeft old cache.old.store → IsPrepared C.meaning header predefined lib main gave.old old self.base self.planned cache.old.store self.checked.items self.compared → (is : IsRebuilt C.meaning header predefined lib main (settled_at old) (settled_at cache.new.store) gave.new) × IsKept predefined lib old cache.new.store is.made gave.new) }
         ensures patched { OnOk result (IsPatched (linked_in gave.old.compiled) (linked_in gave.new.compiled) gave.new.patched) }
         ensures checked { OnOk result (gave.new.checked ≡ self.checked.items) }
         ensures checker { cache.new.checker ≡ cache.old.checker }
@@ -295,10 +343,12 @@ impl PreparedBuild {
     {
         let PreparedBuild {
             planned,
+            base,
             checked,
             compared,
         } = self;
-        gave.patched = link(alloc, planned, &mut gave.compiled)?;
+        let patched = conclude(alloc, planned, base, gave)?;
+        gave.patched = patched;
         gave.checked = Seq::new(checked);
         gave.compared = compared;
         cache.settle();

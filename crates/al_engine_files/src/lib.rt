@@ -1,6 +1,6 @@
 //! Ada files and the predefined units, for a library that is edited and built (`al_engine`).
 //!
-//! - [`AdaFiles`] are files as a build reads them (`files`). Each source is read once; its text and its header are shared from then on (`sources`).
+//! - [`AdaFiles`] are files as a build reads them (`files`). Each source is read once; it and its header are shared from then on (`sources`).
 //!   If only one file was edited, only that file is read again (`renewing`).
 //! - [`PredefinedUnits`] are the packages Standard, Ada, `Ada.Text_IO` and `Ada.Real_Time` (`units`, `package`): what they answer to look-ups.
 //!   [`FixedAnswers`] says that such answers are the same for all values of a type (`fixed`).

@@ -11,9 +11,17 @@ use std::alloc::{AllocError, Global};
 /// If out of memory.
 pub fn pages(alloc: Global) -> Result<Vec<Page>, AllocError> {
     let mut found = Vec::new(alloc);
-    let mut parts = PAGES.split('%');
+    for subject in PAGES {
+        add_pages(subject, &mut found)?;
+    }
+    Ok(found)
+}
+
+// Adds the pages of a subject.
+fn add_pages(subject: &'static str, found: &mut Vec<Page>) -> Result<(), AllocError> {
+    let mut parts = subject.split('%');
     let _nothing = parts.next();
-    for _page in 0..PAGES.len() {
+    for _page in 0..subject.len() {
         let Some(head) = parts.next() else {
             break;
         };
@@ -23,7 +31,7 @@ pub fn pages(alloc: Global) -> Result<Vec<Page>, AllocError> {
             found.push(page)?;
         }
     }
-    Ok(found)
+    Ok(())
 }
 
 fn page_with(head: &'static str, wrong: &'static str, right: &'static str) -> Option<Page> {

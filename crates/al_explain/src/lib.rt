@@ -3,10 +3,15 @@
 //! docs/diagnostics.md is made from this table, and each source is a test (`tests/diagnostics.py`).
 #![tactic(auto)]
 
+mod declarations;
 mod finding;
+mod lexemes;
+mod names;
+mod statements;
 mod table;
+mod units;
 mod writing;
 
 pub use finding::{code_named, pages};
-pub use table::{PAGES, Page};
+pub use table::Page;
 pub use writing::page_text;

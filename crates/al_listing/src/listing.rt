@@ -113,7 +113,7 @@ pub(crate) fn push_text(out: &mut String, text: &[u8]) -> Result<(), AllocError>
     }
 }
 
-/// The same without blanks before and after it.
+/// Appends bytes without the blanks before and after them.
 pub(crate) fn push_trimmed(out: &mut String, text: &[u8]) -> Result<(), AllocError> {
     match std::str::from_utf8(text) {
         Ok(text) => push_plain(out, text.trim()),

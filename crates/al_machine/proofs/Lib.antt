@@ -5,4 +5,5 @@ pub mod MoveLemmas
 pub mod PowerLemmas
 pub mod CodeLemmas
 pub mod BurstLemmas
+pub mod GroupLemmas
 pub mod RegionLemmas

@@ -9,3 +9,4 @@ pub mod Operations
 pub mod Output
 pub mod Code
 pub mod Bursts
+pub mod Groups

@@ -8,7 +8,9 @@
 //! - `table` with `stack`, `frames`, `memory`, `arithmetic`: what each instruction on words does.
 //! - `output`: what a program puts out.
 //! - `regions`: the protected objects, whose words only the task inside them may touch.
-//! - `burst`, `bursts`, `spot`, `singles`: groups of instructions, and bursts.
+//! - `spot`, `grouping`, `bursts`: groups of instructions, which are found once.
+//! - `spots`, `making`, `working`, `sinks`, `routines`: what the parts of a group do.
+//! - `burst`, `singles`: groups and single instructions one after the other.
 #![tactic(auto)]
 
 mod arithmetic;
@@ -16,15 +18,21 @@ mod burst;
 mod bursts;
 mod code;
 mod frames;
+mod grouping;
 mod instruction;
+mod making;
 mod memory;
 mod operation;
 mod output;
 mod regions;
+mod routines;
 mod singles;
+mod sinks;
 mod spot;
+mod spots;
 mod stack;
 mod table;
+mod working;
 
 pub use burst::{Carried, carry_on};
 pub use bursts::Bursts;

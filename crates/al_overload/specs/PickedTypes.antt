@@ -54,7 +54,7 @@ is_scalar_type types of = option_map_or (λ (t : TypeView). is_scalar_definition
 abbrev pub length_of : Bounds → ℤ
 length_of b = if int_lt b.high b.low then pos 0 else saturate_signed w64 (saturate_signed w64 (b.high -ℤ b.low) +ℤ pos 1)
 
--- the same as a number of components
+-- the length of a range as a number of components
 abbrev pub count_of : Bounds → ℕ
 count_of b = min (unsigned_abs (length_of b)) 4294967295
 

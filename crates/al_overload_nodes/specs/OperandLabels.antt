@@ -23,7 +23,7 @@ abbrev pub labels_after : Labels → Labels
 labels_after NoLabel = NoLabel
 labels_after (MoreLabels l more) = more
 
--- those from the k-th operand on
+-- the labels from the k-th operand on
 abbrev pub labels_from : ℕ → Labels → Labels
 labels_from zero ls = ls
 labels_from (suc k) ls = labels_after (labels_from k ls)

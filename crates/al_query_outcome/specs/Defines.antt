@@ -110,7 +110,7 @@ abbrev pub AllDefined : Setting → List ℕ → (UnitKey → Option Outcome) �
 AllDefined s main f =
     (u : UnitKey) (i : UnitInterface) (tree : UnitTree) → Needed s.files main (key_of u) → Has f u i tree → (x : LinkSymbol) → Contains (unit_uses tree) x → IsDefined s main f x
 
--- .. and what it accounts for
+-- all that a needed unit accounts for is defined, too
 abbrev pub AllAccountedDefined : Setting → List ℕ → (UnitKey → Option Outcome) → Type 0
 AllAccountedDefined s main f =
     (u : UnitKey) (i : UnitInterface) (tree : UnitTree) → Needed s.files main (key_of u) → Has f u i tree → (x : LinkSymbol) → IsAccounted i tree x → IsDefined s main f x

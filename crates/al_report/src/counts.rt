@@ -5,9 +5,9 @@ use al_base::Diagnostic;
 /// How many diagnostics there are.
 #[derive(Clone, Copy)]
 pub struct Counts {
-    /// Those that say what is wrong.
+    /// Diagnostics that say what is wrong.
     pub errors: usize,
-    /// Those of units that weren't checked, since others are wrong.
+    /// Diagnostics of units that weren't checked because others have errors.
     pub dependents: usize,
 }
 

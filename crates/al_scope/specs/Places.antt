@@ -87,7 +87,7 @@ inner_declared (r ∷ q ∷ inner) = inner_declared (q ∷ inner)
 abbrev pub entered : List UnitPart → List Region → Region
 entered parts regions = record { construct = None; parts = parts; declared = []; begun = []; uses = uses_at regions }
 
--- the same, of a package, a subprogram, a task, a protected object or an entry
+-- an entered region of a package, a subprogram, a task, a protected object or an entry
 abbrev pub entered_construct : Symbol → List UnitPart → List Region → Region
 entered_construct s parts regions = record (entered parts regions) { construct = Some s }
 
@@ -145,6 +145,6 @@ is_declared_round s regions = not (same_kind s.unit.kind Decl) || encloses s.uni
 abbrev pub with_use_type : Symbol → List Region → List Region
 with_use_type s regions = if is_declared_round s regions then regions else in_last (with_uses (with_type s)) regions
 
--- the same, of a type whose package isn't mentioned there, with the types that its view has
+-- a use type clause for a type whose package isn't mentioned there, with the types that its view has
 abbrev pub with_use_view : Symbol → List TypeView → List Region → List Region
 with_use_view s types regions = if is_declared_round s regions then regions else in_last (with_uses (with_type_view s types)) regions

@@ -20,7 +20,7 @@ source_moment ahead faults pulls source = record { ahead = ahead source; faults 
 pub record Moment : Type 0 where
   -- the bytes still to come, if the reader's type says: those held in the buffer, and then the reader's
   pub ahead : Option (List ℕ)
-  -- those in the buffer
+  -- the bytes in the buffer
   pub held : List ℕ
   -- how many pulls have failed
   pub faults : ℕ

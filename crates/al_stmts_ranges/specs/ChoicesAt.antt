@@ -92,7 +92,7 @@ range_choice r = choices.Range r.bounds
 abbrev pub fitted_choice : Result SubtypeView Fault → Result Choice Fault
 fitted_choice subtype = map_ok (λ (m : SubtypeView). bounds_choice m.subtype.bounds) subtype
 
--- the same after a mark at this place: E305 if they don't lie in it
+-- two bounds after a mark at this place: E305 if they aren't in it
 unfoldable pub marked_choice : FoundType → Place → SubtypeView × StaticRange → Result Choice Fault
 marked_choice found place x =
     if same_symbol x.0.subtype.base found.of then fitted_choice (subtype_of x.0 place (Some x.1)) else Ok choices.OfOtherType

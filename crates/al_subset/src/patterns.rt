@@ -30,9 +30,9 @@ pub enum Inside {
 #[derive(Clone, Copy)]
 pub struct Pattern {
     pub inside: Inside,
-    /// Those right before the error.
+    /// The lexemes right before the error.
     pub before: &'static str,
-    /// Those at the error, the wrong one first.
+    /// The lexemes at the error, the wrong one first.
     pub at: &'static str,
     /// The key of a construct, or the note itself for a mistake.
     pub says: &'static str,

@@ -21,6 +21,6 @@ after m a = record { events = min (m.events + a.done) most; ticks = ticks_after 
 abbrev pub nanos_of : ℕ → Moment → ℕ
 nanos_of n m = min (min (m.ticks * 1000000) most + min (m.since * 1000000) most / max n 1) most
 
--- the same in instructions
+-- the moment in instructions
 abbrev pub slot_of : ℕ → Moment → ℕ
 slot_of n m = min (min (m.ticks * n) most + m.since) most

@@ -90,7 +90,7 @@ impl Chart {
         }
     }
 
-    /// With nothing in it, from a moment on.
+    /// An empty chart, from a moment on.
     pub(crate) fn new(alloc: Global) -> Result<Chart, NoMemory> {
         let mut chart = Chart::none(alloc);
         chart.sets.resize(ROWS * COLUMNS, 0)?;

@@ -10,7 +10,7 @@ use Rattle.al_unit_faults.specs.Private.{private_faults}
 use Rattle.al_unit_faults.specs.Cycles.{cycle_faults}
 use Rattle.al_unit_faults.specs.Orders.{ascending}
 
--- .. of a unit whose name is right
+-- the rules that a unit breaks whose name is right
 abbrev pub rule_faults : Library → List ℕ → Header → List Finding
 rule_faults lib file h = (own_faults lib file h ++ cycle_faults lib file h) ++ flat_map (private_faults lib file h) h.mentions
 

@@ -45,6 +45,6 @@ obsolete_of old faulty new = in_order (filter (is_obsolete old faulty new) (keys
 abbrev pub ObsoleteAreListed : Type 0
 ObsoleteAreListed = (old : Library) (faulty : List (List ℕ)) (new : Library) (key : Key) → Contains (obsolete_of old faulty new) key ↔ IsObsolete old faulty new key
 
--- .. each once, in the order of their keys
+-- the obsolete units are listed once each, in the order of their keys
 abbrev pub ObsoleteAscend : Type 0
 ObsoleteAscend = (old : Library) (faulty : List (List ℕ)) (new : Library) → IsStrictlySortedBy key_cmp (obsolete_of old faulty new)

@@ -35,7 +35,7 @@ pub record IsWanted (lib : Library) (names : List (List ℕ)) (steps : List (ℕ
   pub leads : (s : ℕ × ℕ) → Contains steps s → Contains (wants lib (slice_index_or names s.0 [])) (slice_index_or names s.1 [])
   pub led : (a : ℕ) (name : List ℕ) → a < count → a < length names → Contains (wants lib (slice_index_or names a [])) name → (b : ℕ) × IsAt names b name × Contains steps (a, b)
 
--- .. and from the file after them one leads to each of these
+-- the steps are of the first files, and one step leads from the next file to each of these
 pub record IsWantedTo (lib : Library) (names : List (List ℕ)) (steps : List (ℕ × ℕ)) (count : ℕ) (wanted : List (List ℕ)) : Type 0 where
   pub before : IsWanted lib names steps count
   pub led : (name : List ℕ) → Contains wanted name → (b : ℕ) × IsAt names b name × Contains steps (count, b)

@@ -30,7 +30,7 @@ abbrev pub Descends : List ℕ → Option (List ℕ) → Type 0
 Descends name None = ⊤
 Descends name (Some ancestor) = Contains (lineage name) ancestor
 
--- .. and isn't that unit itself
+-- the name is a descendant's, and not that of the unit itself
 abbrev pub DescendsBelow : List ℕ → Option (List ℕ) → Type 0
 DescendsBelow name None = ⊤
 DescendsBelow name (Some ancestor) = Contains (ancestors name) ancestor

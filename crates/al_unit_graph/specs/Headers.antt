@@ -33,7 +33,7 @@ pub record Header : Type 0 where
   pub stubs : List (List ℕ)
   -- the names in the pragmas Elaborate of the context clause (ARM 10.2.1(20))
   pub elaborate : List (List ℕ)
-  -- .. and in the pragmas Elaborate_All
+  -- the names in the pragmas Elaborate_All of the context clause (ARM 10.2.1(21))
   pub elaborate_all : List (List ℕ)
   -- a package's declaration with the pragma Elaborate_Body in its place (ARM 10.2.1(20))
   pub has_elaborate_body : Bool

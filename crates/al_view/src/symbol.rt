@@ -3,7 +3,7 @@ ghost use Rattle.std.specs.Prelude.{◌≡◌, IfOk};
 ghost use Rattle.al_view.specs.Symbols.{same_symbol};
 
 use crate::unit::{copied_unit, is_unit};
-use al_base::{Name, NoMemory, UnitKey};
+use al_base::{Name, NoMemory, UnitKey, same_bytes};
 use std::alloc::Global;
 
 /// What a declaration of a unit is known by in every unit. A type is the one that has its symbol (ARM 3.2(1)). Symbols are
@@ -34,7 +34,7 @@ impl Symbol {
         ensures { result ≡ same_symbol self.now other.now }
     {
         is_unit(&self.unit, &other.unit)
-            && self.name.as_slice() == other.name.as_slice()
+            && same_bytes(self.name.as_slice(), other.name.as_slice())
             && self.number == other.number
     }
 

@@ -31,8 +31,8 @@ returns-clause-answered g c =
     let complete = c.in_ok-complete.ensures.answered t a in
     let answered = c.in_ok-shown.ensures.answered t complete.0 in (
       answered.0,
-      e ∙ same_test b.unit _ c.in_ok-shown.shown c.in_ok-complete.complete i tree views
-          ∙ same_kept b.unit c.in_ok-shown.shown (shown_by c.in_ok-wanted.wanted (bounded b t)) c.in_ok-complete.complete (completed_by b h i tree (bounded b t)) i tree answered.1.same complete.1
+      e ∙ same_test b.unit _ c.in_ok-shown.shown.views c.in_ok-complete.complete i tree views
+          ∙ same_kept b.unit c.in_ok-shown.shown.views (shown_by c.in_ok-wanted.wanted (bounded b t)) c.in_ok-complete.complete (completed_by b h i tree (bounded b t)) i tree answered.1.same complete.1
           ∙ ap (λ (w : Wanted). self_checked b.unit (shown_by w (bounded b t)) (completed_by b h i tree (bounded b t)) i tree) c.in_ok-wanted.ensures,
     )) c.self_checked.ensures
 
@@ -44,9 +44,9 @@ returns-clause-promised g c =
     let log = c.completed_by.new.recorder.log in
     let views = c.as_slice.ensures in
     IfOk-weaker c.self_checked.result _ _ (λ v e.
-    subst (λ (o : Outcome). Promised b.unit log o) (sym (e ∙ same_test b.unit _ c.in_ok-shown.shown c.in_ok-complete.complete i tree views))
-    (c.what_is_tested_keeps.ensures b.unit log c.in_ok-shown.shown i tree c.in_ok-complete.complete
-    (were_shown b c.in_ok-wanted.wanted log (g.A.Answers.table c.completed_by.new.recorder.asked) c.in_ok-shown.shown c.shown_views_are_answered.ensures c.agrees.ensures (λ t a. (c.in_ok-shown.ensures.answered t (c.in_ok-complete.ensures.answered t a).0).1.among))))
+    subst (λ (o : Outcome). Promised b.unit log o) (sym (e ∙ same_test b.unit _ c.in_ok-shown.shown.views c.in_ok-complete.complete i tree views))
+    (c.what_is_tested_keeps.ensures b.unit log c.in_ok-shown.shown.views i tree c.in_ok-complete.complete
+    (were_shown b c.in_ok-wanted.wanted log (g.A.Answers.table c.completed_by.new.recorder.asked) c.in_ok-shown.shown.views c.shown_views_are_answered.ensures c.agrees.ensures (λ t a. (c.in_ok-shown.ensures.answered t (c.in_ok-complete.ensures.answered t a).0).1.among))))
     c.self_checked.ensures
 
 pub returns-clause-names : goal.returns-clause-names
@@ -67,8 +67,8 @@ returns-clause-parts g c =
     IfOk-weaker c.self_checked.result _ _ (λ v e t a.
     let complete = c.in_ok-complete.ensures.answered t a in
     subst (λ (o : Outcome). DefinesParts b.unit h t o)
-    (sym (e ∙ same_test b.unit _ c.in_ok-shown.shown c.in_ok-complete.complete i tree views ∙ ap (λ (x : Bool). self_checked b.unit c.in_ok-shown.shown x i tree) complete.1))
-    (completes_within b t h c.in_ok-shown.shown i tree c.parts_are_completed.ensures)) c.self_checked.ensures
+    (sym (e ∙ same_test b.unit _ c.in_ok-shown.shown.views c.in_ok-complete.complete i tree views ∙ ap (λ (x : Bool). self_checked b.unit c.in_ok-shown.shown.views x i tree) complete.1))
+    (completes_within b t h c.in_ok-shown.shown.views i tree c.parts_are_completed.ensures)) c.self_checked.ensures
 
 pub returns-clause-asks : goal.returns-clause-asks
 returns-clause-asks g c =

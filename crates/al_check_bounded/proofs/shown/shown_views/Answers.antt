@@ -37,11 +37,11 @@ returns-clause-answered g c =
     let s = c.args.sound.now in
     let i = interface_of s.properties s.parts in
     let tree = unit_model s.tree in
-    IfOk-weaker c.asked_within.result _ _ (λ views e t h.
-    let answered = e t h in (
+    λ t h.
+    let answered = c.in_ok-views.ensures.answered t h in (
       answered.0,
       record {
         among = λ v k. subst (λ (vs : List ViewKind). Contains vs v) answered.1 k;
         same = ap (λ (vs : List ViewKind). is_kept b.unit vs i tree) answered.1;
       },
-    )) c.asked_within.ensures.answered
+    )

@@ -1,7 +1,5 @@
 use Rattle.std.proofs.Common.{map, set, sym, ap, ◌∙◌}
-use Rattle.std.specs.Option.{option_map}
-use Rattle.al_query_store.specs.Keyed.{now_at, settled_at}
-use Rattle.al_engine_refresh.specs.Stored.{outcome_of}
+use Rattle.al_query_store.specs.Keyed.{now_at}
 use Rattle.al_engine_refresh.specs.Builds.{results_of}
 use Rattle.al_engine.specs.ObjectsSeen.{object_model}
 use Rattle.al_engine.specs.BatchRenewals.{renewed}
@@ -11,7 +9,8 @@ use Rattle.al_engine.proofs.batch_renewing.renewed.Goals as goal
 pub returns : goal.returns
 returns c =
     let entries = c.args.entries.now in
+    let kept = c.requires.kept in
     let x = object_model c.in-Some.object in
-    renewed-plan (results_of (now_at entries)) (results_of (settled_at entries)) c.args.unit.now x (λ w k. ap (option_map outcome_of) (c.requires.others w k)) (c.was_sound.ensures c.if-not-was_sound.false) (rw c.in-Some.is at c.in_ok-object.ensures)
-    c.args.sources.now c.args.main.now c.args.before.now c.in-Made.program (record { main = c.in_ok-main.main; at = c.in-Some-place_of.at; object = c.in-Some.object }) c.in-Made.is c.requires.clean c.requires.kept c.in_ok-main.ensures
+    renewed-plan (results_of (now_at entries)) kept.outcomes c.args.unit.now x kept.others kept.sound (rw c.in-Some.is at c.in_ok-object.ensures)
+    c.args.sources.now c.args.main.now c.args.before.now c.in-Made.program (record { main = c.in_ok-main.main; at = c.in-Some-place_of.at; object = c.in-Some.object }) c.in-Made.is c.requires.clean kept.keeps c.in_ok-main.ensures
     (ap (λ us. renewed x (map object_model us)) (sym c.as_slice.ensures.value) ∙ c.in-Some-place_of.ensures ∙ ap (λ us. set (map object_model us) c.in-Some-place_of.at x) c.as_slice.ensures.value)

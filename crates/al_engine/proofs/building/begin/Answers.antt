@@ -6,6 +6,7 @@ use Rattle.al_unit_faults.specs.Read.{AreHeaded, NameParentBodies}
 use Rattle.al_query_store.specs.Keyed.{now_at, settled_at}
 use Rattle.al_engine_refresh.specs.Builds.{results_of}
 use Rattle.al_engine.specs.BatchRenewals.{KeepsPartition}
+use Rattle.al_engine.specs.Earlier.{KeepsEarlier, over}
 use Rattle.al_engine.specs.Prepared.{IsPrepared}
 use Rattle.al_engine.specs.Renewed.{IsCleanBut}
 use Rattle.al_engine.specs.RecheckEdits.{AreEdits, units_of}
@@ -16,7 +17,7 @@ use Rattle.al_engine.specs.Graphs.{AreElaborations, IsOrderOf}
 use Rattle.al_engine.specs.States.{IsSettledBy}
 use Rattle.al_unit_graph.specs.Traces.{AreReadAlike}
 use Rattle.al_engine.proofs.EditedThere.{for-any}
-use Rattle.al_engine.proofs.Keeping.{partition-for}
+use Rattle.al_engine.proofs.Keeping.{partition-of-last}
 use Rattle.al_engine.proofs.Taken.{besides, first_of, graphs_of, of_last, planned_orders, second_of}
 use Rattle.al_engine.proofs.building.begin.Goals as goal
 
@@ -89,11 +90,11 @@ pub prepare-requires-clause-known : goal.prepare-requires-clause-known
 prepare-requires-clause-known g c =
     subst (λ (l : Library). IfSome c.order_now-order.result (λ order. IsElaboration l c.args.main.now (map key_of order.now))) (sym c.sources-sources.ensures) c.order_now-order.ensures
 
-pub prepare-requires-clause-partition : goal.prepare-requires-clause-partition
-prepare-requires-clause-partition g c = λ is.
-    let K : (Library → List ℕ → Type 0) = λ l m. KeepsPartition l (results_of (settled_at c.args.cache.now.store)) m c.args.gave.now.compiled in
-    subst (λ (l : Library). IfSome c.in_ok-known.known.0 (λ _. K l c.args.main.now)) (sym c.sources-sources.ensures)
-    (partition-for c.in_ok-known.known.0 c.alike-found.result.0 (λ b. b.now.main) c.args.main.now (K (g.R.ReadFiles.library (g.R.ReadFiles.files c.args.read.now))) (c.is_same_main.ensures is) c.in_ok-known.ensures.partition)
+pub prepare-requires-clause-kept : goal.prepare-requires-clause-kept
+prepare-requires-clause-kept g c =
+    let K : (Library → List ℕ → Type 0) = λ l m. KeepsPartition l (results_of (settled_at c.args.cache.now.store)) m c.args.gave.now.compiled × KeepsEarlier l (results_of (settled_at c.args.cache.now.store)) c.args.gave.now.earlier in
+    subst (λ (l : Library). IfSome c.main_of.result (λ m. IfSome c.in_ok-known.known.0 (λ _. K l m.now))) (sym c.sources-sources.ensures)
+    (partition-of-last c.in_ok-known.known.0 c.alike-found.result.0 (λ b. b.now.main) c.main_of.result (K (g.R.ReadFiles.library (g.R.ReadFiles.files c.args.read.now))) c.main_of.ensures c.in_ok-known.ensures.kept)
 
 pub orders_now-requires-clause-known : goal.orders_now-requires-clause-known
 orders_now-requires-clause-known g c =
@@ -105,10 +106,10 @@ orders_now-requires-clause-known g c =
 pub orders_now-requires-clause-planned : goal.orders_now-requires-clause-planned
 orders_now-requires-clause-planned g c =
     subst (λ (l : Library). IsOrderOf l c.args.main.now c.in_ok-prepared.prepared.planned) c.sources-sources.ensures
-    (planned_orders c.sources-sources.result.now (results_of (now_at c.prepare.new.cache.store)) c.args.main.now c.args.gave.now.compiled c.in_ok-prepared.prepared.planned c.in_ok-prepared.ensures.prepared.is_planned)
+    (planned_orders c.sources-sources.result.now (results_of (now_at c.prepare.new.cache.store)) c.args.main.now (over c.args.gave.now c.in_ok-prepared.prepared.base) c.in_ok-prepared.prepared.planned c.in_ok-prepared.ensures.prepared.is_planned)
 
 pub returns-clause-prepared : goal.returns-clause-prepared
 returns-clause-prepared g c =
     let p = c.in_ok-prepared.prepared in
-    subst (λ (l : Library). IsPrepared g.C.UnitCheck.meaning g.C.Text.ReadText.header (g.P.Answers.table c.args.predefined.now) l c.args.main.now c.args.gave.now.compiled c.args.cache.now.store p.planned c.prepare.new.cache.store p.checked.items p.compared)
+    subst (λ (l : Library). IsPrepared g.C.UnitCheck.meaning g.C.Text.ReadText.header (g.P.Answers.table c.args.predefined.now) l c.args.main.now c.args.gave.now c.args.cache.now.store p.base p.planned c.prepare.new.cache.store p.checked.items p.compared)
     c.sources-sources.ensures c.in_ok-prepared.ensures.prepared

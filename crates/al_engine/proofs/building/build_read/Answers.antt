@@ -1,7 +1,10 @@
 use Rattle.std.proofs.Common.{ℕ, List, sym, subst}
-use Rattle.al_query_store.specs.Keyed.{settled_at}
+use Rattle.al_query_store.specs.Keyed.{now_at, settled_at}
+use Rattle.al_engine_refresh.specs.Builds.{results_of}
 use Rattle.al_engine.specs.Rechecks.{setting_of}
 use Rattle.al_engine.specs.Batches.{IsCompiled}
+use Rattle.al_engine.specs.Earlier.{IsBase, IsBehind}
+use Rattle.al_engine.proofs.EditedThere.{each-found}
 use Rattle.al_engine.proofs.building.build_read.Goals as goal
 
 pub finish-requires-clause-law : goal.finish-requires-clause-law
@@ -9,6 +12,10 @@ finish-requires-clause-law g c = c.in_ok-begun.ensures.prepared.law
 
 pub finish-requires-clause-closed : goal.finish-requires-clause-closed
 finish-requires-clause-closed g c = c.in_ok-begun.ensures.prepared.closed
+
+pub finish-requires-clause-behind : goal.finish-requires-clause-behind
+finish-requires-clause-behind g c =
+    each-found c.in_ok-begun.begun.prepared.base (IsBase (g.R.ReadFiles.library (g.R.ReadFiles.files c.args.read)) (results_of (now_at c.begin.new.cache.store)) c.args.gave.now) (IsBehind c.args.gave.now) c.in_ok-begun.ensures.prepared.is_base (λ b is. is.behind)
 
 pub returns-clause-rebuilt : goal.returns-clause-rebuilt
 returns-clause-rebuilt g c =

@@ -9,6 +9,7 @@ use Rattle.al_engine.specs.Kept.{IsGraphOf}
 use Rattle.al_engine.specs.Texts.{HaveTextsBut}
 use Rattle.al_engine.specs.declared.graph.UnitGraph.{UnitGraph}
 use Rattle.al_engine.specs.BatchRenewals.{KeepsPartition}
+use Rattle.al_engine.specs.Earlier.{KeepsEarlier}
 use Rattle.al_engine_refresh.specs.Builds.{results_of}
 use Rattle.al_engine.specs.RecheckEdits.{AreEdits, units_of}
 use Rattle.al_engine.specs.Edits.{AreEditedIn, AreIn, HasReachedAll}
@@ -93,8 +94,8 @@ returns-clause-clean g c = λ is.
     clean-but meaning header pre old build.now.main settled.before entries c.args.gave.now settled.rebuilt build.now.graph.value graph whole new headers c.args.edited.now (units_of es.items) found
     (λ file may. are.holds file (subst (λ (fs : List (List ℕ)). Contains fs file) (sym c.as_slice.ensures.value) may)) f others sound))
 
-pub returns-clause-partition : goal.returns-clause-partition
-returns-clause-partition g c =
+pub returns-clause-kept : goal.returns-clause-kept
+returns-clause-kept g c =
     let meaning = g.C.UnitCheck.meaning in
     let header = g.C.Text.ReadText.header in
     let pre = g.P.Answers.table c.args.predefined.now in
@@ -114,9 +115,9 @@ returns-clause-partition g c =
     subst (λ (gr : UnitGraph). HasReachedAll gr (map finding_of (diagnostics_of c.args.gave.now.compiled))) c.deref.ensures
     (subst (λ (ds : List Diagnostic). HasReachedAll c.deref.result.now (map finding_of ds)) c.diagnostics_of-found.ensures (c.has_reached_all.ensures c.if-not-has_reached_all.false)) in
     let made = all-made meaning header pre old build.now.main settled.before entries c.args.gave.now settled.rebuilt build.now.graph.value graph whole in
-    let K : Library → Type 0 = λ l. KeepsPartition l (results_of entries) build.now.main c.args.gave.now.compiled in
+    let K : Library → Type 0 = λ l. KeepsPartition l (results_of entries) build.now.main c.args.gave.now.compiled × KeepsEarlier l (results_of entries) c.args.gave.now.earlier in
     let keeps : K (library (files c.args.read.now)) = subst K c.sources-sources.ensures (entries-keep meaning header pre old build.now.main settled.before entries c.args.gave.now settled.rebuilt made new one) in
     each-found c.in_ok-edits.edits
     (λ es. AreEditedIn new entries c.deref-2.result.now c.as_slice.result.now es.items)
-    (λ es. IfSome c.args.same (λ b. KeepsPartition (library (files c.args.read.now)) (results_of entries) b.now.main c.args.gave.now.compiled))
+    (λ es. IfSome c.args.same (λ b. KeepsPartition (library (files c.args.read.now)) (results_of entries) b.now.main c.args.gave.now.compiled × KeepsEarlier (library (files c.args.read.now)) (results_of entries) c.args.gave.now.earlier))
     c.in_ok-edits.ensures (λ es are. rw c.in-Some.is keeps)

@@ -8,12 +8,14 @@ use Rattle.al_engine_refresh.specs.Stored.{Stored}
 use Rattle.al_engine.specs.Objects.{AreCoded}
 use Rattle.al_engine.specs.Plans.{IsPlanned}
 use Rattle.al_engine.specs.BatchRenewals.{KeepsPartition}
+use Rattle.al_engine.specs.Earlier.{IsBase, KeepsEarlier, over}
 use Rattle.al_engine_refresh.specs.Moves.{Entries}
 use Rattle.al_engine_refresh.specs.Found.{findings_of}
 use Rattle.al_engine_refresh.specs.Builds.{results_of}
 use Rattle.al_engine.specs.Rechecks.{IsUpdated}
 use Rattle.al_engine.specs.RecheckEdits.{units_of}
 use Rattle.al_engine.specs.declared.edited.EditedUnit.{EditedUnit}
+use Rattle.al_engine.proofs.EditedThere.{each-found}
 use Rattle.al_engine.proofs.RebuildClean.{AreSound, clean-now}
 use Rattle.al_engine.proofs.Left.{of-edited, others-left, renewed-by, settled-left}
 use Rattle.al_engine.specs.Renewed.{IsCleanBut}
@@ -45,20 +47,22 @@ plan_now-requires-clause-others g c =
     subst (λ (e : Entries). IfSome found (λ edits. (w : UnitKey) → has_unit (units_of edits.now) w ≡ false → now_at e w ≡ settled_at e w)) (sym c.entries-entries.ensures)
     (others-left old new c.in_ok-given.ensures.left found renewed)
 
-pub plan_now-requires-clause-partition : goal.plan_now-requires-clause-partition
-plan_now-requires-clause-partition g c = λ known.
+pub plan_now-requires-clause-kept : goal.plan_now-requires-clause-kept
+plan_now-requires-clause-kept g c =
     let old = c.args.cache.now.store in
     let new = c.check_library.new.cache.store in
     let found = c.renewed_units-edits.result in
-    let K = λ (at : UnitKey → Option Stored). KeepsPartition c.args.sources.now (results_of at) c.args.main.now c.args.before.now in
-    subst (λ (e : Entries). IfSome found (λ _. K (settled_at e))) (sym c.entries-entries.ensures)
-    (subst (λ (at : UnitKey → Option Stored). IfSome found (λ _. K at)) (λ i u. sym (settled-left old new c.in_ok-given.ensures.left u) i)
-    (of-edited c.args.edited.now c.in_ok-given.given.is_renewal (λ _. K (settled_at old)) found c.renewed_units-edits.ensures (c.requires.partition known)))
+    let K : (UnitKey → Option Stored) → List ℕ → Type 0 = λ at last. KeepsPartition c.args.sources.now (results_of at) last c.args.gave.now.compiled × KeepsEarlier c.args.sources.now (results_of at) c.args.gave.now.earlier in
+    each-found c.args.standing.main (λ last. IfSome c.args.edited.now (λ _. K (settled_at old) last.now)) (λ last. IfSome found (λ _. K (settled_at c.entries-entries.result.now) last.now)) c.requires.kept
+    (λ last has.
+    subst (λ (e : Entries). IfSome found (λ _. K (settled_at e) last.now)) (sym c.entries-entries.ensures)
+    (subst (λ (at : UnitKey → Option Stored). IfSome found (λ _. K at last.now)) (λ i u. sym (settled-left old new c.in_ok-given.ensures.left u) i)
+    (of-edited c.args.edited.now c.in_ok-given.given.is_renewal (λ _. K (settled_at old) last.now) found c.renewed_units-edits.ensures has)))
 
 pub returns-clause-prepared : goal.returns-clause-prepared
 returns-clause-prepared g c =
     let new = c.check_library.new.cache.store in
-    let planned = subst (λ (e : Entries). IsPlanned c.args.sources.now (results_of (now_at e)) c.args.main.now c.args.before.now c.in_ok-planned.planned) c.entries-entries.ensures c.in_ok-planned.ensures in
+    let planned = subst (λ (e : Entries). IsPlanned c.args.sources.now (results_of (now_at e)) c.args.main.now (over c.args.gave.now c.in_ok-found.found.1) c.in_ok-found.found.0) c.entries-entries.ensures c.in_ok-found.ensures.planned in
     let given = c.in_ok-given.given in
     let parts = c.into_parts-checked.ensures in
     let update : (List UnitKey → ℕ → Type 0) = λ us n. IsUpdated g.C.UnitCheck.meaning g.C.Text.ReadText.header (g.P.Answers.table c.args.predefined.now) c.args.sources.now c.args.cache.now.store new us n in
@@ -67,8 +71,9 @@ returns-clause-prepared g c =
           subst (λ (us : List UnitKey). update us c.into_parts-checked.result.1) (ap (λ it. it.0.items) (sym parts))
           (subst (λ (n : ℕ). update given.checked.items n) (ap (λ it. it.1) (sym parts)) c.in_ok-given.ensures.updated);
       is_planned = planned;
+      is_base = subst (λ (e : Entries). IfSome c.in_ok-found.found.1 (IsBase c.args.sources.now (results_of (now_at e)) c.args.gave.now)) c.entries-entries.ensures c.in_ok-found.ensures.base;
       closed =
           c.partitions_are_closed.ensures g.C.UnitCheck.meaning g.C.Text.ReadText.header (g.P.Answers.table c.args.predefined.now) c.args.sources.now c.args.graph.now.order.items c.requires.headed c.requires.bodies c.requires.predefined c.requires.graph.order
-          _ (now_at new) _ c.in_ok-given.ensures.updated.rechecked c.args.main.now c.args.before.now c.in_ok-planned.planned planned;
+          _ (now_at new) _ c.in_ok-given.ensures.updated.rechecked c.args.main.now (over c.args.gave.now c.in_ok-found.found.1) c.in_ok-found.found.0 planned;
       law = c.in_ok-given.ensures.law;
     }

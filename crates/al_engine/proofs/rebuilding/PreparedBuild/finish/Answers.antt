@@ -20,8 +20,9 @@ returns-clause-rebuilt g c = λ header predefined lib main old left is.
       record {
         made = now_at mid;
         rechecked = subst (λ (us : List UnitKey). IsRechecked meaning header (setting_of header predefined lib) (settled_at old) (now_at mid) us) (sym c.new.ensures) now.rechecked;
-        is_batch = c.in_ok-gave.ensures.batch lib (results_of (now_at mid)) main is.is_planned;
+        is_batch = c.in_ok-patched.ensures.batch lib (results_of (now_at mid)) main is.is_planned;
         entries = λ u. ap (λ (s : State Stored). entry_of s.settled) (ended u) ∙ entry-held (settled_state (state mid u)).settled ∙ now.staying u;
+        earlier = c.in_ok-patched.ensures.earlier lib (results_of (now_at mid)) is.is_base;
       },
       record {
         reached = reached-now meaning header predefined lib old mid new units c.args.self.compared now ended;

@@ -1,0 +1,2 @@
+pub mod Wheres
+pub mod Frames

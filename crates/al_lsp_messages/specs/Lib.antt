@@ -1,0 +1,5 @@
+pub mod Incoming
+pub mod Methods
+pub mod Params
+pub mod Outgoing
+pub mod Values

@@ -1,0 +1,11 @@
+pub mod Answered
+pub mod Lists
+pub mod ByName
+pub mod Overs
+pub mod Pictured
+pub mod Placing
+pub mod Results
+pub mod Turns
+pub mod Written
+pub mod Overlaid
+pub mod Gathered

@@ -1,0 +1,9 @@
+pub mod Named
+pub mod Documents
+pub mod Answers
+pub mod Steps
+pub mod Overlays
+pub mod Told
+pub mod Pictures
+pub mod Sent
+pub mod Sessions
