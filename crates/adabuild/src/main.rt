@@ -88,7 +88,7 @@ fn outcome_of<R: Env + Files + Input + Clock + AllocGlobal + Clone + Drop, O: Si
         return Err(Failure::Clock);
     };
     match read_words(rt.alloc(), &host, words.as_slice()) {
-        Ok(asked) => do_asked(rt, &mut host, screen, asked),
+        Ok(mut asked) => do_asked(rt, &mut host, screen, &mut asked),
         Err(failure) => Err(failure),
     }
 }
@@ -98,14 +98,14 @@ fn do_asked<R: Files + Input + AllocGlobal, D: Disk, O: Sink, E: Sink>(
     rt: &R,
     disk: &mut D,
     screen: &mut Screen<O, E>,
-    asked: Asked<'_>,
+    asked: &mut Asked<'_>,
 ) -> Result<Ending, Failure> {
     match asked {
         Asked::Help => say(screen, HELP),
         Asked::Version => say(screen, VERSION),
-        Asked::Explain(code) => explain(rt.alloc(), screen, code),
-        Asked::Load(of, looks) => load_asked(rt, disk, screen, of, looks),
-        Asked::Build(mut request, looks) => build_asked(rt, disk, screen, &mut request, looks),
+        Asked::Explain(code) => explain(rt.alloc(), screen, *code),
+        Asked::Load(of, looks) => load_asked(rt, disk, screen, *of, *looks),
+        Asked::Build(request, looks) => build_asked(rt, disk, screen, request, *looks),
         Asked::Wrong(line) => usage(screen, line.as_bytes()),
     }
 }

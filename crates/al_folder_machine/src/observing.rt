@@ -29,23 +29,13 @@ impl SourceLines for Texts<'_> {
 }
 
 // What watches a run.
+#[derive(Drop)]
 enum Eye<W: Write> {
     Nobody,
     // The file can't be written, for this reason.
     Blind(io::Error),
     Trace(Trace<W>),
     Profile(Profile),
-}
-
-impl<W: Write> Drop for Eye<W> {
-    fn drop(self) {
-        match self {
-            Eye::Nobody => {}
-            Eye::Blind(_) => {}
-            Eye::Trace(_) => {}
-            Eye::Profile(_) => {}
-        }
-    }
 }
 
 /// Watches the runs of programs, and shows what it saw.
