@@ -25,10 +25,11 @@ except ImportError:
 
 TESTS = pathlib.Path(__file__).resolve().parent
 TOP = TESTS.parent
-# Seconds of processor time that notes on 1,000 faulty units may take.
-MOST = 0.1
-# How many runs with notes and without there are at least, and at most where other work makes them slow.
-ROUNDS = (3, 40)
+# Seconds of processor time that notes on 1,000 faulty units are to take, and those that fail the test: notes that grow as the square of the units take seconds,
+# and the program that Rattle's own compiler builds is slower than that of clang.
+AIM, MOST = 0.1, 0.5
+# How many runs with notes and without there are at least, and at most if other work makes them slow.
+ROUNDS = (3, 10)
 
 
 def tables():
@@ -202,7 +203,7 @@ def spent_on_notes(program, folder, what):
         plain.append(processor_time(program, "--all", "--plain", "main", folder)[0])
         spent, said = processor_time(program, "--all", "main", folder)
         noted.append(spent)
-        if number + 1 >= ROUNDS[0] and min(noted) - min(plain) < MOST:
+        if number + 1 >= ROUNDS[0] and min(noted) - min(plain) < AIM:
             break
     least = min(noted) - min(plain)
     print(f"notes of 1,000 faulty units, {what}: {1000 * least:.0f} ms, the least of {len(plain)} runs")
