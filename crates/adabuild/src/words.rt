@@ -65,6 +65,7 @@ const MAX_TICK: u32 = 10_000;
 const MAX_STEPS: u32 = 1_000_000_000;
 
 /// What is asked for.
+#[derive(Drop)]
 pub enum Asked<'a> {
     Help,
     Version,
@@ -74,19 +75,6 @@ pub enum Asked<'a> {
     Build(Request<'a>, Looks<'a>),
     /// The command line is wrong, and this line says how.
     Wrong(String),
-}
-
-impl Drop for Asked<'_> {
-    fn drop(self) {
-        match self {
-            Asked::Help => {}
-            Asked::Version => {}
-            Asked::Explain(_) => {}
-            Asked::Load(_, _) => {}
-            Asked::Build(_, _) => {}
-            Asked::Wrong(_) => {}
-        }
-    }
 }
 
 /// What the command line asks for, which begins with the program's own name.

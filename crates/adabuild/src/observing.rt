@@ -1,10 +1,10 @@
 // What is shown of runs: a trace that is written to a file, a profile on the standard output, or nothing; and listings of code.
 ghost use Rattle.std.specs.Prelude.{◌≤◌, IfOk};
 
+use crate::looks::Looks;
 use al_base::{FileKey, Files, NoMemory};
 use al_folder::line_at;
 use al_folder_served::{Failure, Run, Screen};
-use al_folder_words::Looks;
 use al_link_image::{Image, ImageObject};
 use al_listing::{NoSources, Profile, SourceLines, emit_listing};
 use al_session_stream::{Device, Sink};
