@@ -133,7 +133,7 @@ fn handle<K: Sink, L: DiagnosedLibrary, D: Folders>(
 /// The most calls of a reader in a session.
 const MAX_PULLS: u64 = 1 << 62;
 
-/// Serves a client: reads its messages, and writes what it is told, until it wants the session to end. All that is written are the frames of what the
+/// Serves a client: reads its messages, and writes what the server sends, until it wants the session to end. All that is written are the frames of what the
 /// bodies ask for that are read, one behind the other.
 ///
 /// # Errors
