@@ -1,5 +1,5 @@
 -- What is wrong with a unit is something, each of it in the unit's own file and of a rule of checks.
-use Rattle.std.proofs.Common.{◌≡◌, true, ◌&&◌, List, [], ◌∷◌, length, map, nat_lt, Option, Some, None, Result, Ok, Err, refl, ap, subst, ◌∙◌, arith}
+use Rattle.std.proofs.Common.{◌≡◌, Bool, true, false, if◌then◌else◌, ◌&&◌, List, [], ◌∷◌, length, map, nat_lt, Option, Some, None, Result, Ok, Err, refl, ap, subst, ◌∙◌, arith}
 use Rattle.std.specs.Prelude.{⊤}
 use Rattle.std.specs.List.{list_all}
 use Rattle.std.proofs.lemmas.Bool.Decides.{nat_tests}
@@ -16,6 +16,7 @@ use Rattle.al_base_fault.specs.declared.check_rule.CheckRule.TheVariants.{Duplic
 use Rattle.al_base_fault.specs.declared.fault.Fault.{Fault}
 use Rattle.al_stmts.specs.FaultLists.{all_faults}
 use Rattle.al_tree_syntax.specs.UnitTrees.{CompilationUnitTree}
+use Rattle.al_unit_header.specs.Units.{header_of}
 use Rattle.al_view.specs.declared.view.ViewKind.{ViewKind}
 use Rattle.al_query.specs.Reads.{Table}
 use Rattle.al_scope_context.specs.Contexts.{context_at}
@@ -26,6 +27,7 @@ use Rattle.al_check_promises.proofs.Kept.{own_fault}
 use Rattle.al_check_bounded.specs.Verdicts.{IsTold, Verdict}
 use Rattle.al_check_bounded.specs.Verdicts.Verdict.{Wrong}
 use Rattle.al_check_here.specs.Ends.{ends_told}
+use Rattle.al_check_start.specs.Around.{is_own, is_surrounded, not_surrounded}
 use Rattle.al_check_start.specs.UnitsAt.{completed_at, name_fault, start_after, start_with, unit_at}
 use Rattle.al_check_start.specs.declared.unit.UnitStart.{UnitStart}
 use Rattle.al_check_bounded.specs.Ended.{ended, right_at, viewed}
@@ -81,20 +83,25 @@ OfUnit unit (Ok s) = s.own.unit ≡ unit
 OfUnit unit (Err f) = ⊤
 
 module _ (t : Table) (unit : UnitKey) (tree : CompilationUnitTree) where
-  started : (c : Context) → OfUnit unit (start_after t unit tree.item c)
-  started c = by (name_fault t unit tree.item (completed_at t unit tree.item).view)
+  started : (c : Context) → OfUnit unit (start_after t unit (header_of tree) tree c)
+  started c = by (is_surrounded t unit (header_of tree) start.own start.packages) (name_fault t unit tree.item (completed_at t unit tree.item).view)
     where
-      by : (fault : Option Fault) → OfUnit unit (unless fault (Ok (start_with t unit tree.item c (completed_at t unit tree.item))))
-      by None = refl
-      by (Some f) = tt
+      start : UnitStart
+      start = start_with t unit tree.item c (completed_at t unit tree.item)
+
+      by : (b : Bool) (fault : Option Fault) → OfUnit unit (if b then unless fault (Ok start) else Err (not_surrounded tree))
+      by true None = refl
+      by true (Some f) = tt
+      by false fault = tt
 
   start_of : OfUnit unit (unit_at t unit tree)
   unfolding unit_at
-  start_of = by (context_at t tree.context)
+  start_of = by (is_own unit (header_of tree)) (context_at t tree.context)
     where
-      by : (r : Result Context Fault) → OfUnit unit (next r (start_after t unit tree.item))
-      by (Ok c) = started c
-      by (Err f) = tt
+      by : (own : Bool) (r : Result Context Fault) → OfUnit unit (if own then next r (start_after t unit (header_of tree) tree) else Err (not_surrounded tree))
+      by true (Ok c) = started c
+      by true (Err f) = tt
+      by false r = tt
 
   pub start_own : (s : UnitStart) → unit_at t unit tree ≡ Ok s → s.own.unit ≡ unit
   start_own s is = subst (λ (r : Result UnitStart Fault). OfUnit unit r) is start_of

@@ -36,6 +36,7 @@ use Rattle.al_base_graph.proofs.Members as member
 use Rattle.al_stmts.specs.Steps.{Inside}
 use Rattle.al_check_bounded.specs.Verdicts.{NamesWithin, Verdict}
 use Rattle.al_check_here.specs.Ends.{ends_told}
+use Rattle.al_check_start.specs.Around.{is_own, is_surrounded, not_surrounded}
 use Rattle.al_check_start.specs.UnitsAt.{completed_at, name_fault, start_after, start_with, unit_at}
 use Rattle.al_check_start.specs.declared.unit.UnitStart.{UnitStart}
 use Rattle.al_check_bounded.specs.Ended.{ended, right_at, viewed}
@@ -172,20 +173,25 @@ module _ (t : Table) (unit : UnitKey) (tree : CompilationUnitTree) where
       (λ u k. own_known u (parent_named t unit tree u k))
       (λ u k. mention_known u (subst (λ (us : List UnitKey). Contains us u) (all_mentioned c is) k))
 
-  started : (c : Context) → c.withs ≡ map withed_unit (mentions tree) → StartNamed named (start_after t unit tree.item c)
-  started c is = by (name_fault t unit tree.item (completed_at t unit tree.item).view)
+  started : (c : Context) → c.withs ≡ map withed_unit (mentions tree) → StartNamed named (start_after t unit (header_of tree) tree c)
+  started c is = by (is_surrounded t unit (header_of tree) start.own start.packages) (name_fault t unit tree.item (completed_at t unit tree.item).view)
     where
-      by : (fault : Option Fault) → StartNamed named (unless fault (Ok (start_with t unit tree.item c (completed_at t unit tree.item))))
-      by None = known c is
-      by (Some f) = tt
+      start : UnitStart
+      start = start_with t unit tree.item c (completed_at t unit tree.item)
+
+      by : (b : Bool) (fault : Option Fault) → StartNamed named (if b then unless fault (Ok start) else Err (not_surrounded tree))
+      by true None = known c is
+      by true (Some f) = tt
+      by false fault = tt
 
   start_named : StartNamed named (unit_at t unit tree)
   unfolding unit_at
-  start_named = by (context_at t tree.context) (items_withs t context_start tree.context)
+  start_named = by (is_own unit (header_of tree)) (context_at t tree.context) (items_withs t context_start tree.context)
     where
-      by : (r : Result Context Fault) → Withs (map withed_unit (mentions tree)) r → StartNamed named (next r (start_after t unit tree.item))
-      by (Ok c) is = started c is
-      by (Err f) is = tt
+      by : (own : Bool) (r : Result Context Fault) → Withs (map withed_unit (mentions tree)) r → StartNamed named (if own then next r (start_after t unit (header_of tree) tree) else Err (not_surrounded tree))
+      by true (Ok c) is = started c is
+      by true (Err f) is = tt
+      by false r is = tt
 
 -- ---- what is found
 

@@ -13,7 +13,7 @@ use Rattle.al_check_start.specs.declared.unit.UnitStart.{UnitStart}
 use Rattle.al_check_bounded.specs.Made.{fault_in, faults_in}
 use Rattle.al_check.specs.Ada.{ada_verdict, item_faults}
 
--- an error of the context clause or of the defining name is reported, alone
+-- an error of the start is reported, alone
 abbrev pub StartFaultsAreReported : Type 0
 StartFaultsAreReported = (unit : UnitKey) (text : List ℕ) (tree : CompilationUnitTree) (t : Table) (f : Fault) → unit_at t unit tree ≡ Err f
     → ada_verdict unit text tree t ≡ Wrong (fault_in unit f ∷ [])

@@ -1,3 +1,4 @@
+pub mod Around
 pub mod PrivateNames
 pub mod Starts
 pub mod Subunits

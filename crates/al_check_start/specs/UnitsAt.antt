@@ -1,7 +1,7 @@
 -- How the check of a unit begins: its header, the place at its start, what waits for completion there, and whether its name is taken (ARM 10.1,
 -- 10.2), by a table of answers.
 use Rattle.std.specs.List.{flat_map}
-use Rattle.std.specs.Prelude.{ℕ, Bool, true, false, ◌&&◌, ◌||◌, List, [], ◌∷◌, map, not, Option, Some, None, Result, Ok, if◌then◌else◌}
+use Rattle.std.specs.Prelude.{ℕ, Bool, true, false, ◌&&◌, ◌||◌, List, [], ◌∷◌, map, not, Option, Some, None, Result, Ok, Err, if◌then◌else◌}
 use Rattle.std.specs.Option.{is_none, option_map, unwrap_or}
 use Rattle.al_base_fault.specs.declared.check_rule.CheckRule.TheVariants.{Duplicate}
 use Rattle.al_base.specs.declared.unit_key.UnitKey.{UnitKey}
@@ -12,7 +12,7 @@ use Rattle.al_scope_context.specs.declared.context.Context.{Context}
 use Rattle.al_decl_judged.specs.declared.progress.Progress.{Progress}
 use Rattle.al_decl_judged.specs.Homonyms.{Counts, with_name}
 use Rattle.al_scope_context.specs.ContextPragmas.{full_name}
-use Rattle.al_unit_header.specs.Units.{is_private, item_name, place_of}
+use Rattle.al_unit_header.specs.Units.{header_of, is_private, item_name, last_identifier, place_of}
 use Rattle.al_scope.specs.Seen.{completions_seen_at}
 use Rattle.al_scope.specs.declared.seen_hiding.PrivateName.{PrivateName}
 use Rattle.al_base_fault.specs.Faults.{fault_at}
@@ -38,6 +38,8 @@ use Rattle.al_view.specs.declared.view.CallKind.TheVariants as calls
 use Rattle.al_view.specs.declared.view.ViewKind.{ViewKind}
 use Rattle.al_view.specs.declared.view.ViewKind.TheVariants.{OfPackage, OfSubprogram}
 use Rattle.al_query_outcome.specs.Left.{body_named, last_of, stub_view}
+use Rattle.al_unit_graph.specs.Headers.{Header}
+use Rattle.al_check_start.specs.Around.{is_own, is_surrounded, not_surrounded}
 use Rattle.al_check_start.specs.Subunits.{stubs_round}
 use Rattle.al_check_start.specs.declared.completed.Completed.{Completed}
 use Rattle.al_check_start.specs.declared.unit.UnitStart.{UnitStart}
@@ -108,7 +110,7 @@ own_view unit (Subunit l o n s b) = None
 abbrev pub place_at : Table → OwnText → Option ViewKind → Place × List UnitKey
 place_at t own view =
     let entered : Place = record { mentioned = []; regions = unit_regions t own [] } in
-    all_mentioned t (mentioned view own.unit.name entered) (packaged view own.unit.name []) (mentioned_names t own)
+    all_mentioned t own.unit (mentioned view own.unit.name entered) (packaged view own.unit.name []) (mentioned_names t own)
 
 -- ---- what waits for completion there
 
@@ -186,7 +188,7 @@ taken_in t name (Some p) =
 -- E301 at the name of a unit
 abbrev pub name_fault : Table → UnitKey → LibraryItemTree → Option ViewKind → Option Fault
 name_fault t unit item view =
-    if declares item view && taken_in t (last_of unit.name) (names.parent_of unit.name) then Some (fault_at (place_of (item_name item)) Duplicate) else None
+    if declares item view && taken_in t (last_identifier (item_name item)).text (names.parent_of unit.name) then Some (fault_at (place_of (item_name item)) Duplicate) else None
 
 -- ---- all of it
 
@@ -196,10 +198,14 @@ start_with t unit item context completed =
     let place = place_at t own (own_view unit item) in
     record { own = own; scope = place.0; packages = place.1; progress = progress_at unit item (depth_of item completed.view); uncompleted = completions_seen_at t place.0 (waiting t unit item completed.view); parent = completed.parent; view = completed.view; hidden = hidden_at t own }
 
-abbrev pub start_after : Table → UnitKey → LibraryItemTree → Context → Result UnitStart Fault
-start_after t unit item context =
-    let completed = completed_at t unit item in
-    unless (name_fault t unit item completed.view) (Ok (start_with t unit item context completed))
+abbrev pub start_after : Table → UnitKey → Header → CompilationUnitTree → Context → Result UnitStart Fault
+start_after t unit h u context =
+    let completed = completed_at t unit u.item in
+    let start = start_with t unit u.item context completed in
+    if is_surrounded t unit h start.own start.packages then unless (name_fault t unit u.item completed.view) (Ok start) else Err (not_surrounded u)
+
+abbrev pub headed_at : Table → UnitKey → Header → CompilationUnitTree → Result UnitStart Fault
+headed_at t unit h u = if is_own unit h then next (context_at t u.context) (start_after t unit h u) else Err (not_surrounded u)
 
 unfoldable pub unit_at : Table → UnitKey → CompilationUnitTree → Result UnitStart Fault
-unit_at t unit u = next (context_at t u.context) (start_after t unit u.item)
+unit_at t unit u = headed_at t unit (header_of u) u

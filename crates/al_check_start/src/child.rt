@@ -7,16 +7,14 @@ ghost use Rattle.al_query.specs.Answers.{declaration, views_of};
 ghost use Rattle.al_query.specs.Reads.{FromAnswers};
 ghost use Rattle.al_query.specs.declared.query.Query.TheVariants.{Named};
 ghost use Rattle.al_tree.specs.UnitViews.{library_item_model};
-ghost use Rattle.al_query_outcome.specs.Left.{last_of};
 ghost use Rattle.al_check_start.specs.UnitsAt.{declares, has_views, name_fault, taken_in};
 ghost use Rattle.al_unit_graph.specs.Names as names;
 
-use crate::item::item_name;
+use crate::item::{item_name, last_identifier};
 use al_base::{Name, NoMemory, UnitKey, UnitKind};
 use al_base_fault::{CheckRule, Fault};
 use al_overload_lookup::is_none;
 use al_query::{Answers, Query, Recorder};
-use al_query_outcome::last_of;
 use al_tree::LibraryItem;
 use al_unit_graph::parent_of;
 use al_view::{Part, View};
@@ -92,16 +90,16 @@ fn taken_in_parent<A: Answers>(
     Ok(taken)
 }
 
-/// Whether the parent of the unit with this full name declares its last identifier. The parent of a root unit is Standard.
+/// Whether the parent of the unit with this full name declares this last identifier of it. The parent of a root unit is Standard.
 fn is_taken<A: Answers>(
     alloc: Global,
     name: &[u8],
+    last: &[u8],
     recorder: &mut Recorder<A>,
 ) -> Result<bool, NoMemory>
     ensures asked { recorder.new.asked ≡ recorder.old.asked }
-    ensures answered { IfOk result (λ taken. FromAnswers recorder.old.log recorder.new.log (λ t. taken ≡ taken_in t (last_of name.now) (names.parent_of name.now))) }
+    ensures answered { IfOk result (λ taken. FromAnswers recorder.old.log recorder.new.log (λ t. taken ≡ taken_in t last.now (names.parent_of name.now))) }
 {
-    let last = last_of(name);
     match parent_of(name) {
         Some(parent) => taken_in_parent(alloc, parent, last, recorder),
         None => has(alloc, b"standard", Part::Visible, last, recorder),
@@ -139,7 +137,8 @@ pub(crate) fn name_fault<A: Answers>(
     ensures asked { recorder.new.asked ≡ recorder.old.asked }
     ensures answered { IfOk result (λ fault. FromAnswers recorder.old.log recorder.new.log (λ t. fault ≡ name_fault t unit.now (library_item_model item.now) view.now)) }
 {
-    let taken = is_taken(alloc, unit.name.as_slice(), recorder)?;
+    let last = last_identifier(item_name(item));
+    let taken = is_taken(alloc, unit.name.as_slice(), last, recorder)?;
     let fault = duplicate_if(declares(item, view), taken, item);
     Ok(fault)
 }

@@ -1,6 +1,6 @@
 // Properties of a library item that its own source shows.
 ghost use Rattle.std.specs.Prelude.{◌≡◌};
-ghost use Rattle.al_unit_header.specs.Units.{designator, is_private, item_name};
+ghost use Rattle.al_unit_header.specs.Units.{designator, is_private, item_name, last_identifier};
 ghost use Rattle.al_tree.specs.DeclarationViews.{compound_model, specification_model};
 ghost use Rattle.al_tree.specs.UnitViews.{library_item_model};
 ghost use Rattle.al_check_start.specs.UnitsAt.{is_package_item};
@@ -40,6 +40,16 @@ fn designator(specification: &Specification) -> &CompoundName
     match specification {
         Specification::Procedure(_, name, _) => name,
         Specification::Function(_, name, _, _, _) => name,
+    }
+}
+
+/// The last identifier of a name.
+pub(crate) fn last_identifier(name: &CompoundName) -> &[u8]
+    ensures { result.now ≡ (last_identifier (compound_model name.now)).text }
+{
+    match name.selectors.as_slice() {
+        [.., last] => last.name.as_slice(),
+        [] => name.first.name.as_slice(),
     }
 }
 

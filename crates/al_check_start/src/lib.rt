@@ -2,11 +2,13 @@
 //!
 //! - `unit` gives the start of a unit: its header (`item`, `names`), what it completes (`completed`, `stub`), the place at its start (`place`), what
 //!   waits for completion there (`waiting`), and the private types that its visible part hides (`hidden`); or E301 if its name is taken (`child`).
+//! - `around` says whether the units that enclose a unit are there; else the unit has E401 at its name.
 //! - `known` gives the units that a unit may ask: those that it names (`named`), those that enclose it (`outward`), what with clauses mention
 //!   (`mentions`), and the other halves of these (`half`). `private_names` gives the private types whose full views it may see.
 //! - `walk` goes over the unit's item, with an analyzer for declarations and statements.
 #![tactic(auto)]
 
+mod around;
 mod child;
 mod completed;
 mod half;

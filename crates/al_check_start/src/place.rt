@@ -90,6 +90,13 @@ pub(crate) fn place_at<A: Answers>(
     enter_unit(alloc, &mut scope, own, recorder)?;
     mention_view(alloc, &mut scope, packages, own.unit.name.as_slice(), view)?;
     let names = mentioned(alloc, own, recorder)?;
-    mention_all(alloc, &mut scope, packages, names.as_slice(), recorder)?;
+    mention_all(
+        alloc,
+        &own.unit,
+        &mut scope,
+        packages,
+        names.as_slice(),
+        recorder,
+    )?;
     Ok(scope)
 }

@@ -1,22 +1,28 @@
 // How the check of a unit begins.
-ghost use Rattle.std.specs.Prelude.{◌≡◌, IfOk};
+ghost use Rattle.std.specs.Prelude.{◌≡◌, Err, IfOk, Ok, if◌then◌else◌};
+ghost use Rattle.al_base_fault.specs.Judging.{unless};
+ghost use Rattle.al_unit_graph.specs.Views.{header_model};
+ghost use Rattle.al_check_start.specs.Around.{is_surrounded, not_surrounded};
 ghost use Rattle.al_query.specs.Reads.{FromAnswers};
 ghost use Rattle.al_tree.specs.UnitViews.{library_item_model, unit_model};
 ghost use Rattle.al_scope.specs.Seen.{completions_seen_at};
-ghost use Rattle.al_check_start.specs.UnitsAt.{hidden_at, start_after, start_with, unit_at, waiting};
+ghost use Rattle.al_check_start.specs.UnitsAt.{headed_at, hidden_at, start_after, start_with, unit_at, waiting};
 
+use crate::around::{is_own, is_surrounded, not_surrounded};
 use crate::child::name_fault;
 use crate::completed::{Completed, completed_at};
 use crate::hidden::hidden_at;
 use crate::place::{own_text, own_view, place_at};
 use crate::waiting::{progress_at, visible_waiting};
 use al_base::{NoMemory, UnitKey};
-use al_base_fault::{CheckResult, unless};
+use al_base_fault::{CheckResult, Fault, unless};
 use al_decl_judged::{Progress, Uncompleted};
 use al_query::{Answers, Recorder};
 use al_scope::{OwnText, PrivateName, Scope};
 use al_scope_context::{Context, context_at};
 use al_tree::{CompilationUnit, LibraryItem};
+use al_unit_graph::Header;
+use al_unit_header::header_of;
 use al_view::{Seq, View};
 use std::alloc::Global;
 
@@ -145,29 +151,93 @@ fn start_with<A: Answers>(
     })
 }
 
-/// The start of the check of a unit after this context clause, or E301 at its name.
+/// This start of the check of a unit, unless its name has this error; or E401 at the name, if not all that encloses the unit is there.
+fn if_whole(
+    whole: bool,
+    text: &CompilationUnit,
+    fault: Option<Fault>,
+    start: UnitStart,
+) -> CheckResult<UnitStart>
+    ensures { result ≡ (if whole then unless fault (Ok start) else Err (not_surrounded (unit_model text.now))) }
+{
+    if whole {
+        return unless(fault, Ok(start));
+    }
+    drop(start);
+    Err(not_surrounded(text))
+}
+
+/// The same, by the answers of other units.
+fn judged<A: Answers>(
+    alloc: Global,
+    unit: &UnitKey,
+    header: &Header,
+    text: &CompilationUnit,
+    fault: Option<Fault>,
+    start: UnitStart,
+    recorder: &mut Recorder<A>,
+) -> Result<CheckResult<UnitStart>, NoMemory>
+    ensures asked { recorder.new.asked ≡ recorder.old.asked }
+    ensures answered { IfOk result (λ checked. FromAnswers recorder.old.log recorder.new.log (λ t. checked ≡ (if is_surrounded t unit.now (header_model header.now) start.own start.packages then unless fault (Ok start) else Err (not_surrounded (unit_model text.now))))) }
+{
+    let packages = start.packages.as_slice();
+    match is_surrounded(alloc, unit, header, &start.own, packages, recorder) {
+        Ok(whole) => Ok(if_whole(whole, text, fault, start)),
+        Err(error) => {
+            drop(start);
+            Err(error)
+        }
+    }
+}
+
+/// The start of the check of a unit after this context clause; or E401 at its name, if not all is there that encloses the unit, or E301 if the
+/// name is taken.
 fn start_after<A: Answers>(
     alloc: Global,
     unit: &UnitKey,
-    item: &LibraryItem,
+    header: &Header,
+    text: &CompilationUnit,
     context: Context,
     recorder: &mut Recorder<A>,
 ) -> Result<CheckResult<UnitStart>, NoMemory>
     ensures asked { recorder.new.asked ≡ recorder.old.asked }
-    ensures answered { IfOk result (λ start. FromAnswers recorder.old.log recorder.new.log (λ t. start ≡ start_after t unit.now (library_item_model item.now) context)) }
+    ensures answered { IfOk result (λ start. FromAnswers recorder.old.log recorder.new.log (λ t. start ≡ start_after t unit.now (header_model header.now) (unit_model text.now) context)) }
 {
+    let item = &text.item;
     let completed = completed_at(alloc, unit, item, recorder)?;
     let fault = name_fault(alloc, unit, item, &completed.view, recorder)?;
     let start = start_with(alloc, unit, item, context, completed, recorder)?;
-    let checked = unless(fault, Ok(start));
-    Ok(checked)
+    judged(alloc, unit, header, text, fault, start, recorder)
 }
 
-/// The start of the check of a unit: its context clause is judged, then its place is made, and what waits for completion there. Else the first error
-/// of the context clause, or else E301 at a name that the parent declares too (ARM 8.3(26), 10.1.1, 10.1.2).
+/// The start of the check of a unit with this header.
+fn headed_at<A: Answers>(
+    alloc: Global,
+    unit: &UnitKey,
+    header: &Header,
+    text: &CompilationUnit,
+    recorder: &mut Recorder<A>,
+) -> Result<CheckResult<UnitStart>, NoMemory>
+    ensures asked { recorder.new.asked ≡ recorder.old.asked }
+    ensures answered { IfOk result (λ start. FromAnswers recorder.old.log recorder.new.log (λ t. start ≡ headed_at t unit.now (header_model header.now) (unit_model text.now))) }
+{
+    if !is_own(alloc, unit, header)? {
+        return Ok(Err(not_surrounded(text)));
+    }
+    let context = context_at(alloc, text.context.as_slice(), recorder)?;
+    match context {
+        Ok(context) => start_after(alloc, unit, header, text, context, recorder),
+        Err(fault) => Ok(Err(fault)),
+    }
+}
+
+/// The start of the check of a unit: its context clause is judged, then its place is made, and what waits for completion there. Else E401 at the
+/// name of a unit whose source isn't its own; or the first error of the context clause; or E401 at the name of a unit if not all is there that
+/// encloses it; or E301 at a name that the parent declares too (ARM 8.3(26), 10.1.1, 10.1.2).
 ///
 /// # Errors
 /// `NoMemory` if the allocator refuses memory.
+#[tactic(auto, unfolding(crate::specs::UnitsAt::unit_at))]
 pub fn unit_at<A: Answers>(
     alloc: Global,
     unit: &UnitKey,
@@ -177,9 +247,7 @@ pub fn unit_at<A: Answers>(
     ensures asked { recorder.new.asked ≡ recorder.old.asked }
     ensures answered { IfOk result (λ start. FromAnswers recorder.old.log recorder.new.log (λ t. start ≡ unit_at t unit.now (unit_model text.now))) }
 {
-    let context = context_at(alloc, text.context.as_slice(), recorder)?;
-    match context {
-        Ok(context) => start_after(alloc, unit, &text.item, context, recorder),
-        Err(fault) => Ok(Err(fault)),
-    }
+    let header = header_of(alloc, text)?;
+    let start = headed_at(alloc, unit, &header, text, recorder)?;
+    Ok(start)
 }

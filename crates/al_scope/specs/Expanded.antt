@@ -1,6 +1,7 @@
 -- Expanded names: the prefix is a construct that encloses the place, or a package of the library (ARM 4.1.3(4, 13)).
-use Rattle.std.specs.Prelude.{◌≡◌, ℕ, List, ◌∷◌, [], Option, Some, MatchOption, unwrap_or}
-use Rattle.std.specs.List.{find}
+use Rattle.std.specs.Prelude.{◌≡◌, ℕ, Bool, true, List, ◌∷◌, [], Option, Some, MatchOption, unwrap_or, if◌then◌else◌}
+use Rattle.std.specs.List.{find, list_any}
+use Rattle.std.specs.Str.{bytes_eq}
 use Rattle.std.specs.Option.{option_map, option_map_or}
 use Rattle.al_view.specs.declared.symbol.Symbol.{Symbol}
 use Rattle.al_view.specs.declared.view.ViewKind.{ViewKind}
@@ -53,9 +54,21 @@ within_parts s place = option_map_or (λ r. r.parts) (region_of s place.regions)
 abbrev pub unit_region : UnitKey → List Region → Option Region
 unit_region unit regions = find (is_within unit) regions
 
--- what it has of a name; nothing, if the unit doesn't enclose the place
+-- whether a private type of that name may be one of the region's: if it continues parts, their units say which private types they declare
+abbrev pub tells : List ℕ → Region → Bool
+tells name r = among r.parts
+  where
+    among : List UnitPart → Bool
+    among [] = true
+    among (p ∷ ps) = list_any (bytes_eq name) r.private_types
+
+-- what the region has of a private type's name
+abbrev pub told_in : (Query → AnswerKind) → Declarations → List ℕ → Region → List ViewKind
+told_in t m name r = if tells name r then (found_in t m name r).views else []
+
+-- what the unit's region has of a private type's name; nothing, if the unit doesn't enclose the place
 abbrev pub within_unit : (Query → AnswerKind) → List ℕ → UnitKey → Place → List ViewKind
-within_unit t name unit place = option_map_or (λ r. (found_in t place.mentioned name r).views) (unit_region unit place.regions) []
+within_unit t name unit place = option_map_or (told_in t place.mentioned name) (unit_region unit place.regions) []
 
 -- the parts that are asked then
 abbrev pub unit_parts : UnitKey → Place → List UnitPart

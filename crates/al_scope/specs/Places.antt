@@ -85,7 +85,7 @@ inner_declared (r ∷ q ∷ inner) = inner_declared (q ∷ inner)
 
 -- a region that is entered: nothing is declared in it, and the use clauses round it hold in it too (ARM 8.4(6))
 abbrev pub entered : List UnitPart → List Region → Region
-entered parts regions = record { construct = None; parts = parts; declared = []; begun = []; uses = uses_at regions }
+entered parts regions = record { construct = None; parts = parts; declared = []; begun = []; uses = uses_at regions; private_types = [] }
 
 -- an entered region of a package, a subprogram, a task, a protected object or an entry
 abbrev pub entered_construct : Symbol → List UnitPart → List Region → Region
@@ -104,6 +104,10 @@ with_declared name v r = record r { declared = with_view r.declared name v }
 -- a region with a declaration begun
 abbrev pub with_begun : List ℕ → Region → Region
 with_begun name r = record r { begun = insert_key name_cmp r.begun name }
+
+-- a region of whose units contexts name these private types
+abbrev pub with_private_types : List (List ℕ) → Region → Region
+with_private_types names r = record r { private_types = names }
 
 -- a region with a use clause
 abbrev pub with_uses : (Uses → Uses) → Region → Region

@@ -17,11 +17,11 @@ use Rattle.al_query.specs.declared.answer.ContextView.{ContextView}
 use Rattle.al_query.specs.declared.answer.UseClause.{UseClause}
 use Rattle.al_query.specs.declared.answer.UseClause.TheVariants.{Package, «Type», Operators}
 use Rattle.al_query.specs.declared.answer.UseInPart.{UseInPart}
-use Rattle.al_query.specs.Answers.{context_of, is_private_of, own_view_of}
+use Rattle.al_query.specs.Answers.{context_of, is_private_of, names_told, own_view_of}
 use Rattle.al_query.specs.Reads.{Table}
 use Rattle.al_scope.specs.declared.region.Region.{Region}
 use Rattle.al_scope.specs.declared.region.UnitPart.{UnitPart}
-use Rattle.al_scope.specs.Places.{entered, visible_part, with_part, with_use, with_use_type, with_use_view}
+use Rattle.al_scope.specs.Places.{entered, in_last, visible_part, with_part, with_private_types, with_use, with_use_type, with_use_view}
 use Rattle.al_scope.specs.UseClauses.{package_unit}
 use Rattle.al_scope.specs.declared.own.OwnText.{OwnText}
 
@@ -78,9 +78,15 @@ symbol_at t unit = view_symbol (view_at t unit)
 abbrev pub entered_as : Option Symbol → List UnitPart → List Region → Region
 entered_as construct parts rs = record (entered parts rs) { construct = construct }
 
--- a region is entered that continues some parts (ARM 8.1); the use clauses of other parts hold in it too
+-- the private types that the context of the part's unit names
+abbrev pub told_types : Table → UnitPart → List (List ℕ)
+told_types t p = names_told (t (Of p.unit Context))
+
+-- a region is entered that continues some parts (ARM 8.1); the use clauses of other parts hold in it too, and their units say which
+-- private types they declare
 abbrev pub continued : Table → Option Symbol → List UnitPart → List UnitPart → List Region → List Region
-continued t construct parts used rs = with_clauses (flat_map (part_uses t) used) (rs ++ entered_as construct parts rs ∷ [])
+continued t construct parts used rs =
+    with_clauses (flat_map (part_uses t) used) (in_last (with_private_types (flat_map (told_types t) used)) (rs ++ entered_as construct parts rs ∷ []))
 
 abbrev pub part_of : UnitKey → Part → UnitPart
 part_of unit p = record { unit = unit; part = p }

@@ -49,7 +49,7 @@ pub fn use_each(alloc: Global, scope: &mut Scope, clauses: &[UseClause]) -> Resu
 }
 
 /// Whether the name is among the names.
-fn has_name(names: &[Name], name: &[u8]) -> bool
+pub(crate) fn has_name(names: &[Name], name: &[u8]) -> bool
     ensures { result ≡ list_any (bytes_eq name.now) names.now }
 {
     names.iter().any(|other| name == other.as_slice())

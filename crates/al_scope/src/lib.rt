@@ -35,7 +35,7 @@ mod uses;
 mod view;
 
 pub use clauses::use_each;
-pub use mentions::mentioned;
+pub use mentions::{asked_units, mentioned};
 pub use own::OwnText;
 pub use partial::{declared_type, first_partial, is_full_view, is_private, own_type, partial_type};
 pub use private_part::enter_private_part;

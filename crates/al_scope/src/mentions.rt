@@ -110,7 +110,9 @@ fn add_stubs(alloc: Global, stubs: &[UnitPart], units: &mut Vec<UnitKey>) -> Res
 
 /// The units that are asked: the ancestors, the bodies round a subunit, and the declarations of bodies. If there are none, it takes no
 /// memory.
-fn asked_units_of(alloc: Global, own: &OwnText) -> Result<Vec<UnitKey>, NoMemory>
+/// # Errors
+/// `NoMemory` if the allocator refuses memory.
+pub fn asked_units(alloc: Global, own: &OwnText) -> Result<Vec<UnitKey>, NoMemory>
     ensures is { IfOk result (λ units. units.items ≡ asked_units own.now) }
     ensures takes_none { ancestor_units (library_name own.now) ≡ [] → own.now.stubs ≡ [] → own_declaration own.now.unit ≡ [] → is_ok result ≡ true }
 {
@@ -137,7 +139,7 @@ pub fn mentioned<A: Answers>(
     let mut names = Vec::new(alloc);
     add_lineage(alloc, library, &mut names)?;
     add_lineages(alloc, own.withs.as_slice(), &mut names)?;
-    let units = asked_units_of(alloc, own)?;
+    let units = asked_units(alloc, own)?;
     add_each_withs(alloc, units.as_slice(), &mut names, recorder)?;
     Ok(names)
 }

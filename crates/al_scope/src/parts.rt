@@ -1,15 +1,15 @@
 // Regions that continue parts of units.
-ghost use Rattle.std.specs.Prelude.{◌≡◌, ◌+◌, ◌<◌, [], ◌∷◌, ◌++◌, IfOk, is_ok, length, true};
+ghost use Rattle.std.specs.Prelude.{◌≡◌, ◌+◌, ◌<◌, [], ◌∷◌, ◌++◌, IfOk, OnOk, is_ok, length, true};
 ghost use Rattle.std.specs.List.{flat_map};
 ghost use Rattle.al_query.specs.Asked.{AsksOf, by_property};
 ghost use Rattle.al_query.specs.Reads.{FromAnswers};
 ghost use Rattle.al_query.specs.declared.query.Query.TheVariants.{Of};
 ghost use Rattle.al_scope.specs.Places.{part_units};
-ghost use Rattle.al_scope.specs.UnitPlaces.{continued, entered_as, part_uses, with_clauses};
+ghost use Rattle.al_scope.specs.UnitPlaces.{continued, entered_as, part_uses, told_types, with_clauses};
 
 use crate::clauses::use_context;
 use crate::{Scope, UnitPart};
-use al_base::{NoMemory, UnitKey};
+use al_base::{Name, NoMemory, UnitKey};
 use al_query::{Answers, Property, Query, Recorder};
 use al_view::{Seq, Symbol, copied_unit};
 use std::alloc::Global;
@@ -99,6 +99,51 @@ fn use_parts<A: Answers>(
     Ok(())
 }
 
+/// Adds these names. Of no names it takes no memory.
+fn add_names(alloc: Global, more: &[Name], names: &mut Vec<Name>) -> Result<(), NoMemory>
+    ensures { OnOk result (names.new.items ≡ names.old.items ++ more.now) }
+{
+    for name in more {
+        let name = Name::from_slice(alloc, name.as_slice())?;
+        names.push(name)?;
+    }
+    Ok(())
+}
+
+/// Adds the private types that the context of the part's unit names.
+fn add_told<A: Answers>(
+    alloc: Global,
+    part: &UnitPart,
+    names: &mut Vec<Name>,
+    recorder: &mut Recorder<A>,
+) -> Result<(), NoMemory>
+    ensures asked { recorder.new.asked ≡ recorder.old.asked }
+    ensures answered { OnOk result (FromAnswers recorder.old.log recorder.new.log (λ t. names.new.items ≡ names.old.items ++ told_types t part.now)) }
+    ensures asks { OnOk result (AsksOf (part.now.unit ∷ []) by_property recorder.old.log recorder.new.log) }
+{
+    let query = property_of(alloc, &part.unit, Property::Context)?;
+    let answer = recorder.ask(&query)?;
+    add_names(alloc, answer.private_types(), names)?;
+    Ok(())
+}
+
+/// The private types that the contexts of the parts' units name. Of no parts it takes no memory.
+fn told_types<A: Answers>(
+    alloc: Global,
+    parts: &[UnitPart],
+    recorder: &mut Recorder<A>,
+) -> Result<Vec<Name>, NoMemory>
+    ensures asked { recorder.new.asked ≡ recorder.old.asked }
+    ensures answered { IfOk result (λ names. FromAnswers recorder.old.log recorder.new.log (λ t. names.items ≡ flat_map (told_types t) parts.now)) }
+    ensures asks { IfOk result (λ _. AsksOf (part_units parts.now) by_property recorder.old.log recorder.new.log) }
+{
+    let mut names = Vec::new(alloc);
+    for part in parts {
+        add_told(alloc, part, &mut names, recorder)?;
+    }
+    Ok(names)
+}
+
 /// Enters a region that continues the parts, of that construct if there is one.
 /// # Errors
 /// `NoMemory` if the allocator refuses memory.
@@ -118,7 +163,8 @@ pub fn enter_as(
     Ok(())
 }
 
-/// Enters a region that continues the parts, of that construct if there is one. The use clauses of the other parts hold in it.
+/// Enters a region that continues the parts, of that construct if there is one. The use clauses of the other parts hold in it, and their
+/// units say which private types they declare.
 /// # Errors
 /// `NoMemory` if the allocator refuses memory.
 pub fn continue_parts<A: Answers>(
@@ -137,6 +183,8 @@ pub fn continue_parts<A: Answers>(
 {
     let copy = copied_parts(alloc, parts)?;
     enter_as(scope, construct, copy)?;
+    let names = told_types(alloc, used, recorder)?;
+    scope.tell(Seq::new(names));
     use_parts(alloc, scope, used, recorder)?;
     Ok(())
 }

@@ -1,11 +1,13 @@
 // A region: what is declared in it so far, what is begun, and what its use clauses name.
 ghost use Rattle.std.specs.Prelude.{◌≡◌, [], None, is_ok, if◌then◌else◌};
+ghost use Rattle.al_scope.specs.Expanded.{tells};
 ghost use Rattle.al_scope.specs.Places.{is_region_of, is_within, with_begun, with_declared, with_uses};
 ghost use Rattle.al_scope.specs.UseClauses.{with_package, with_type, with_type_view};
 
+use crate::clauses::has_name;
 use crate::names::NameSet;
 use crate::uses::UseClauses;
-use al_base::{NoMemory, UnitKey};
+use al_base::{Name, NoMemory, UnitKey};
 use al_view::{Interface, Part, Seq, Symbol, Types, View, is_unit};
 use std::alloc::Global;
 
@@ -35,6 +37,8 @@ pub struct Region {
     pub begun: NameSet,
     /// The use clauses that hold in it so far, including those of the regions round it.
     pub uses: UseClauses,
+    /// The private types that the contexts of the units of its parts name.
+    pub private_types: Seq<Name>,
 }
 
 impl Drop for Region {
@@ -45,6 +49,7 @@ impl Drop for Region {
             declared: _,
             begun: _,
             uses: _,
+            private_types: _,
         } = self;
     }
 }
@@ -52,7 +57,7 @@ impl Drop for Region {
 impl Region {
     /// A region of no construct that continues these parts, with these use clauses and nothing of its own yet. It takes no memory.
     pub fn new(alloc: Global, parts: Seq<UnitPart>, uses: UseClauses) -> Self
-        ensures { result ≡ (record { construct = None; parts = parts; declared = []; begun = []; uses = uses }) }
+        ensures { result ≡ (record { construct = None; parts = parts; declared = []; begun = []; uses = uses; private_types = [] }) }
     {
         Region {
             construct: None,
@@ -60,6 +65,7 @@ impl Region {
             declared: Interface::new(alloc),
             begun: NameSet::new(alloc),
             uses,
+            private_types: Seq::empty(alloc),
         }
     }
 
@@ -80,6 +86,17 @@ impl Region {
         match &self.construct {
             Some(own) => is_unit(unit, &own.unit),
             None => false,
+        }
+    }
+
+    /// Whether a private type of that name may be one of the region's: if it continues parts, their units say which private types they
+    /// declare.
+    pub fn tells(&self, name: &[u8]) -> bool
+        ensures { result ≡ tells name.now self.now }
+    {
+        match self.parts.as_slice() {
+            [] => true,
+            [_, ..] => has_name(self.private_types.as_slice(), name),
         }
     }
 

@@ -11,7 +11,7 @@ ghost use Rattle.al_scope.specs.declared.region.Region.{Region};
 ghost use Rattle.al_scope.specs.Asked.{AsksParts};
 ghost use Rattle.al_scope.specs.Expanded.{IsSelected, part_of, region_of, selected_at, selected_parts, unit_parts, unit_region, within, within_parts, within_unit};
 ghost use Rattle.al_scope.specs.PartialViews.{some_incomplete};
-ghost use Rattle.al_scope.specs.Places.{encloses, entered, entered_construct, in_last, inner_declared, inner_parts, is_declared_round, part_units, place_of, place_units, uses_at, with_begun, with_declared, with_mentioned, with_part, with_use, with_use_type, with_use_view};
+ghost use Rattle.al_scope.specs.Places.{encloses, entered, entered_construct, in_last, inner_declared, inner_parts, is_declared_round, part_units, place_of, place_units, uses_at, with_begun, with_declared, with_mentioned, with_part, with_private_types, with_use, with_use_type, with_use_view};
 ghost use Rattle.al_scope.specs.Searches.{searched_parts};
 ghost use Rattle.al_scope.specs.Visible.{declared_by, innermost, visible_at};
 ghost use Rattle.al_scope.specs.VisibleSet.{Has, IsVisible, KeepsOnce, StaysOnce};
@@ -20,9 +20,9 @@ use crate::hiding::{Search, has_homograph};
 use crate::partial::some_incomplete;
 use crate::questions::{ask_more, visible_part_at};
 use crate::region::{Region, UnitPart};
-use crate::search::{append_some, find, search_outward, used_of};
+use crate::search::{append_some, find, find_told, search_outward, used_of};
 use crate::uses::UseClauses;
-use al_base::{NoMemory, UnitKey, UnitKind};
+use al_base::{Name, NoMemory, UnitKey, UnitKind};
 use al_query::{Answers, Recorder};
 use al_view::{Interface, Seq, Symbol, Types, View, Views};
 use std::alloc::Global;
@@ -196,6 +196,18 @@ impl Scope {
         let region = &mut self.regions[last];
         region.start(name)?;
         Ok(())
+    }
+
+    /// The contexts of the units of its parts name these private types in the innermost region. It takes no memory.
+    pub fn tell(&mut self, private_types: Seq<Name>)
+        requires { 0 < length self.old.regions }
+        ensures new { self.new.regions ≡ in_last (with_private_types private_types) self.old.regions }
+        ensures depth { length self.new.regions ≡ length self.old.regions }
+        ensures mentioned { self.new.mentioned ≡ self.old.mentioned }
+    {
+        let last = self.regions.len() - 1;
+        let region = &mut self.regions[last];
+        region.private_types = private_types;
     }
 
     /// Whether the unit encloses the place: a region round it is that of the unit, or of a construct in it.
@@ -430,8 +442,8 @@ impl Scope {
         }
     }
 
-    /// What the region of a package that encloses the place has of a name. `unit` is the package's unit. If it doesn't enclose the place,
-    /// the result is empty, and it takes no memory.
+    /// What the region of a package that encloses the place has of a private type's name. `unit` is the package's unit. If it doesn't
+    /// enclose the place, the result is empty, and it takes no memory.
     /// # Errors
     /// `NoMemory` if the allocator refuses memory.
     pub fn within_unit<A: Answers>(
@@ -447,8 +459,8 @@ impl Scope {
     {
         match unit_region(self.regions.as_slice(), unit) {
             Some(region) => {
-                let found = find(self.alloc, &self.mentioned, region, name, recorder)?;
-                Ok(found.views)
+                let views = find_told(self.alloc, &self.mentioned, region, name, recorder)?;
+                Ok(views)
             }
             None => Ok(Views::new(self.alloc)),
         }

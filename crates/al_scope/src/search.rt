@@ -1,9 +1,10 @@
 // What regions and use clauses have of a name.
-ghost use Rattle.std.specs.Prelude.{◌≡◌, List, [], ◌++◌, IfOk, OnOk, is_ok, map, true, if◌then◌else◌};
+ghost use Rattle.std.specs.Prelude.{◌≡◌, List, [], ◌++◌, IfOk, OnOk, false, is_ok, map, true, if◌then◌else◌};
 ghost use Rattle.al_view.specs.Interfaces.{views_of};
 ghost use Rattle.al_query.specs.Reads.{HoldsBy, FromAnswers};
 ghost use Rattle.al_scope.specs.declared.hiding.RegionEntry.{RegionEntry};
 ghost use Rattle.al_scope.specs.Asked.{AsksParts};
+ghost use Rattle.al_scope.specs.Expanded.{tells, told_in};
 ghost use Rattle.al_scope.specs.Places.{region_parts, use_parts, uses_at};
 ghost use Rattle.al_scope.specs.Searches.{IsSearch, searched};
 ghost use Rattle.al_scope.specs.UseClauses.{EachOnce};
@@ -52,6 +53,28 @@ pub fn find<A: Answers>(
     let views = without_partial(alloc, views)?;
     let begun = region.begun.contains(name);
     Ok(RegionEntry { begun, views })
+}
+
+/// What a region has of a private type's name. If the region continues parts whose units declare no such type, it takes no memory.
+/// # Errors
+/// `NoMemory` if the allocator refuses memory.
+pub fn find_told<A: Answers>(
+    alloc: Global,
+    mentioned: &Interface,
+    region: &Region,
+    name: &[u8],
+    recorder: &mut Recorder<A>,
+) -> Result<Views, NoMemory>
+    ensures asked { recorder.new.asked ≡ recorder.old.asked }
+    ensures answered { IfOk result (λ views. FromAnswers recorder.old.log recorder.new.log (λ t. views ≡ told_in t mentioned.now name.now region.now)) }
+    ensures asks { IfOk result (λ _. AsksParts region.now.parts name.now recorder.old.log recorder.new.log) }
+    ensures takes_none { tells name.now region.now ≡ false → is_ok result ≡ true }
+{
+    if region.tells(name) {
+        let found = find(alloc, mentioned, region, name, recorder)?;
+        return Ok(found.views);
+    }
+    Ok(Views::new(alloc))
 }
 
 /// What the regions have of a name, from the innermost outward up to the first that decides. No region further out is asked. If there is no

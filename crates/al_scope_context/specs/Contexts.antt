@@ -1,14 +1,18 @@
 -- What a context clause says (ARM 10.1.2, 10.1.6): it is read in a place of its own, with one region that continues nothing, in which the root units
 -- that it mentions so far are declared.
-use Rattle.std.specs.Prelude.{◌≡◌, ℕ, Bool, ◌&&◌, List, [], ◌∷◌, ◌++◌, fold, Option, Some, None, Result, Ok, Err, if◌then◌else◌}
+use Rattle.std.specs.Prelude.{◌≡◌, ℕ, Bool, true, false, ◌&&◌, List, [], ◌∷◌, ◌++◌, fold, Option, Some, None, Result, Ok, Err, if◌then◌else◌}
 use Rattle.std.specs.Option.{is_none as has_none}
 use Rattle.al_base.specs.declared.unit_key.UnitKey.{UnitKey}
+use Rattle.al_base.specs.declared.unit_key.UnitKind.{UnitKind}
+use Rattle.al_base.specs.declared.unit_key.UnitKind.TheVariants.{Body, Decl}
 use Rattle.al_base_fault.specs.Judging.{next, map_ok, unless}
 use Rattle.al_base_fault.specs.declared.fault.Fault.{Fault}
 use Rattle.al_overload_lookup.specs.Keys.{is_none}
 use Rattle.al_query.specs.Answers.{declaration, own_view_of}
-use Rattle.al_query.specs.Known.{body, has_unit}
+use Rattle.al_query.specs.Known.{has_unit}
 use Rattle.al_query.specs.Reads.{Table}
+use Rattle.al_query.specs.declared.answer.AnswerKind.{AnswerKind}
+use Rattle.al_query.specs.declared.answer.AnswerKind.TheVariants as answers
 use Rattle.al_query.specs.declared.answer.UseClause.{UseClause}
 use Rattle.al_query.specs.declared.query.Property.TheVariants.{Kind}
 use Rattle.al_query.specs.declared.query.Query.TheVariants.{Of}
@@ -22,17 +26,22 @@ use Rattle.al_scope.specs.UnitPlaces.{is_package_view}
 use Rattle.al_scope_context.specs.ContextPragmas.{context_pragma_fault, full_name}
 use Rattle.al_scope_context.specs.UsesAt.{all_names, uses_at}
 use Rattle.al_scope_context.specs.declared.context.Context.{Context}
+use Rattle.al_view.specs.Symbols.{same_unit}
 use Rattle.al_view.specs.declared.view.ViewKind.{ViewKind}
 
 -- ---- library units that are mentioned
 
--- what a library unit is by its own view: by that of its declaration, or else by that of the body that acts as one (ARM 10.1.4(4))
-abbrev pub view_or : Option ViewKind → Option ViewKind → Option ViewKind
-view_or (Some v) other = Some v
-view_or None other = other
+-- the answer of a unit that isn't there
+abbrev pub is_nothing : AnswerKind → Bool
+is_nothing answers.Nothing = true
+is_nothing _ = false
+
+-- which half of a library unit says what the unit is: its declaration, or if there is none the body that acts as one (ARM 10.1.4(4))
+abbrev pub telling_half : Table → List ℕ → UnitKind
+telling_half t name = if is_nothing (t (Of (declaration name) Kind)) then Body else Decl
 
 abbrev pub library_view : Table → List ℕ → Option ViewKind
-library_view t name = view_or (own_view_of (t (Of (declaration name) Kind))) (own_view_of (t (Of (body name) Kind)))
+library_view t name = own_view_of (t (Of (record { name = name; kind = telling_half t name }) Kind))
 
 -- a place where a library unit is mentioned, if there is one
 abbrev pub mentioned : Option ViewKind → List ℕ → Place → Place
@@ -44,17 +53,18 @@ abbrev pub packaged : Option ViewKind → List ℕ → List UnitKey → List Uni
 packaged view name packages =
     if is_package_view view then (if has_unit packages (declaration name) then packages else packages ++ declaration name ∷ []) else packages
 
--- a place and the packages that are mentioned there, with one unit more
-abbrev pub with_mention : Table → Place × List UnitKey → List ℕ → Place × List UnitKey
-with_mention t m name = (mentioned (library_view t name) name m.0, packaged (library_view t name) name m.1)
+-- a place and the packages that are mentioned there, with one unit more; a declaration isn't asked what it is itself
+abbrev pub with_mention : Table → UnitKey → Place × List UnitKey → List ℕ → Place × List UnitKey
+with_mention t own m name =
+    if same_unit own (declaration name) then m else (mentioned (library_view t name) name m.0, packaged (library_view t name) name m.1)
 
 -- these are the place and the packages after it
-abbrev pub Mentioned : Table → List ℕ → Place → List UnitKey → Place → List UnitKey → Type 0
-Mentioned t name place packages after found = (after ≡ mentioned (library_view t name) name place) × (found ≡ packaged (library_view t name) name packages)
+abbrev pub Mentioned : Table → UnitKey → List ℕ → Place → List UnitKey → Place → List UnitKey → Type 0
+Mentioned t own name place packages after found = (after, found) ≡ with_mention t own (place, packages) name
 
 -- with the units of these names
-abbrev pub all_mentioned : Table → Place → List UnitKey → List (List ℕ) → Place × List UnitKey
-all_mentioned t place packages names = fold (with_mention t) (place, packages) names
+abbrev pub all_mentioned : Table → UnitKey → Place → List UnitKey → List (List ℕ) → Place × List UnitKey
+all_mentioned t own place packages names = fold (with_mention t own) (place, packages) names
 
 -- ---- context clauses
 

@@ -20,7 +20,7 @@ use Rattle.al_tree_syntax.specs.DeclarationTrees.{CompoundNameTree, CompoundName
 use Rattle.al_overload_values.specs.CompoundNames.{name_text}
 use Rattle.al_overload_values.specs.TermsAt.{mark_at}
 use Rattle.al_scope.specs.UnitPlaces.{with_clauses}
-use Rattle.al_unit_graph.specs.Names.{is_reserved}
+use Rattle.al_unit_graph.specs.Names.{is_without_file}
 use Rattle.al_view.specs.declared.symbol.Symbol.{Symbol}
 use Rattle.al_view.specs.declared.view.SubtypeView.{SubtypeView}
 use Rattle.al_view.specs.declared.view.ViewKind.{ViewKind}
@@ -44,24 +44,24 @@ abbrev pub visible_key : Denotations → TextPlace → List ℕ → List Label �
 visible_key d p key [] = Ok key
 visible_key d p key (l ∷ ls) = unless_faulty (selector_fault d p (dotted key l.text) l) (visible_key d p (dotted key l.text) ls)
 
--- the package under a name: nothing else is visible under it, as packages aren't overloaded
-abbrev pub package_under : TextPlace → List ViewKind → Result UnitKey Fault
-package_under p [] = Err (wrong_kind p)
-package_under p (views.OfPackage s ∷ vs) = Ok s.unit
-package_under p (v ∷ vs) = Err (wrong_kind p)
+-- the package under a name, if it is mentioned: nothing else is visible under it, as packages aren't overloaded
+abbrev pub package_under : List UnitKey → TextPlace → List ViewKind → Result UnitKey Fault
+package_under packages p [] = Err (wrong_kind p)
+package_under packages p (views.OfPackage s ∷ vs) = if has_unit packages s.unit then Ok s.unit else Err (wrong_kind p)
+package_under packages p (v ∷ vs) = Err (wrong_kind p)
 
--- the package that a name denotes
-abbrev pub denoted_package : Denotations → CompoundNameTree → Result UnitKey Fault
-denoted_package d n =
+-- the package that a name denotes, if these are mentioned
+abbrev pub denoted_package : List UnitKey → Denotations → CompoundNameTree → Result UnitKey Fault
+denoted_package packages d n =
     if is_none (d.visible n.first.text) then Err (not_visible n.first)
-    else next (visible_key d (place_of n.first) n.first.text n.selectors) (λ key. package_under (place_of n.first) (d.visible key))
+    else next (visible_key d (place_of n.first) n.first.text n.selectors) (λ key. package_under packages (place_of n.first) (d.visible key))
 
 unfoldable pub package_at : Table → Place → List UnitKey → CompoundNameTree → Result UnitKey Fault
-package_at t place packages n = denoted_package (names_denoted t place packages n) n
+package_at t place packages n = denoted_package packages (names_denoted t place packages n) n
 
 -- whether the operators of a type are looked for where it is declared: its package is mentioned, or predefined, or it is declared round the place
 abbrev pub is_looked_for : Place → List UnitKey → Symbol → Bool
-is_looked_for place packages s = (has_unit packages s.unit || is_reserved s.unit.name) || is_declared_round s place.regions
+is_looked_for place packages s = (has_unit packages s.unit || is_without_file s.unit.name) || is_declared_round s place.regions
 
 -- the operators of the type of a mark (ARM 8.4(4)): if they aren't looked for, those that its view has
 abbrev pub type_opened : Place → List UnitKey → SubtypeView → UseClause

@@ -3,6 +3,7 @@ ghost use Rattle.std.specs.Prelude.{◌≡◌, ◌<◌, true, false, map, length
 ghost use Rattle.al_base_fault.specs.Judging.{fault_in, map_ok};
 ghost use Rattle.al_query.specs.Reads.{FromAnswers};
 ghost use Rattle.al_tree.specs.DeclarationViews.{compound_model, use_model};
+ghost use Rattle.al_unit_graph.specs.Names.{is_without_file};
 ghost use Rattle.al_scope_context.specs.UsesAt.{added, is_looked_for, opened_at, opened_from, package_opened, type_opened, used_in, uses_at};
 
 use crate::mention::has_unit;
@@ -13,16 +14,23 @@ use al_overload_values::name_mark_at;
 use al_query::{Answers, Recorder, UseClause};
 use al_scope::{Scope, use_each};
 use al_tree::CompoundName;
-use al_unit_graph::is_reserved;
+use al_unit_graph::is_predefined;
 use al_view::{Seq, SubtypeView, Symbol};
 use std::alloc::Global;
+
+/// Whether no file declares the unit of that name, whatever it holds.
+pub fn is_without_file(name: &[u8]) -> bool
+    ensures { result ≡ is_without_file name.now }
+{
+    name == b"standard".as_slice() || is_predefined(name)
+}
 
 /// Whether the operators of a type are looked up where the type is declared.
 fn is_looked_for(scope: &Scope, packages: &[UnitKey], symbol: &Symbol) -> bool
     ensures { result ≡ is_looked_for scope.now packages.now symbol.now }
 {
     has_unit(packages, &symbol.unit)
-        || is_reserved(symbol.unit.name.as_slice())
+        || is_without_file(symbol.unit.name.as_slice())
         || scope.is_declared_round(symbol)
 }
 

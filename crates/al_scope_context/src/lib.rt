@@ -13,8 +13,8 @@ mod opened_package;
 mod pragma;
 mod use_pragma;
 
-pub use clause::{use_at, uses_at};
+pub use clause::{is_without_file, use_at, uses_at};
 pub use context::{Context, context_at};
-pub use mention::{library_view, mention_all, mention_view, shared, view_of};
+pub use mention::{has_unit, library_view, mention_all, mention_view, shared, view_of};
 pub use pragma::full_name;
 pub use use_pragma::{pragma_fault, unless_right};

@@ -8,10 +8,11 @@ ghost use Rattle.al_query.specs.Reads.{FromAnswers};
 ghost use Rattle.al_query.specs.declared.query.Property.TheVariants.{Kind};
 ghost use Rattle.al_query.specs.declared.query.Query.TheVariants.{Of};
 ghost use Rattle.al_scope.specs.UnitPlaces.{is_package_view};
-ghost use Rattle.al_scope_context.specs.Contexts.{Mentioned, all_mentioned, library_view, mentioned, packaged, view_or};
+ghost use Rattle.al_view.specs.Symbols.{same_unit};
+ghost use Rattle.al_scope_context.specs.Contexts.{Mentioned, all_mentioned, is_nothing, library_view, mentioned, packaged, telling_half};
 
 use al_base::{Name, NoMemory, UnitKey, UnitKind};
-use al_query::{Answers, Property, Query, Recorder};
+use al_query::{AnswerKind, Answers, Property, Query, Recorder};
 use al_scope::Scope;
 use al_view::{Seq, View, ViewKind, is_unit};
 use std::alloc::Global;
@@ -56,17 +57,31 @@ pub fn view_of<A: Answers>(
     Ok(view)
 }
 
-/// The first view, or else the other one.
-fn view_or(view: Option<View>, other: Option<View>) -> Option<View>
-    ensures { result ≡ view_or view other }
+/// Whether it is the answer of a unit that isn't there.
+fn is_nothing(answer: &AnswerKind) -> bool
+    ensures { result ≡ is_nothing answer.now }
 {
-    match view {
-        Some(view) => Some(view),
-        None => other,
-    }
+    matches!(answer, AnswerKind::Nothing)
 }
 
-/// The own view of a library unit: that of its declaration, or else that of the body that acts as one (ARM 10.1.4(4)).
+/// Which half of a library unit says what the unit is: its declaration, or if there is none the body that acts as one (ARM 10.1.4(4)).
+fn telling_half<A: Answers>(
+    alloc: Global,
+    name: &[u8],
+    recorder: &mut Recorder<A>,
+) -> Result<UnitKind, NoMemory>
+    ensures asked { recorder.new.asked ≡ recorder.old.asked }
+    ensures answered { IfOk result (λ kind. FromAnswers recorder.old.log recorder.new.log (λ t. kind ≡ telling_half t name.now)) }
+{
+    let query = question(alloc, name, UnitKind::Decl)?;
+    let answer = recorder.ask(&query)?;
+    if is_nothing(answer.kind()) {
+        return Ok(UnitKind::Body);
+    }
+    Ok(UnitKind::Decl)
+}
+
+/// The own view of a library unit: that of its declaration, or if there is none that of the body that acts as one (ARM 10.1.4(4)).
 /// # Errors
 /// `NoMemory` if the allocator refuses memory.
 pub fn library_view<A: Answers>(
@@ -77,9 +92,8 @@ pub fn library_view<A: Answers>(
     ensures asked { recorder.new.asked ≡ recorder.old.asked }
     ensures answered { IfOk result (λ view. FromAnswers recorder.old.log recorder.new.log (λ t. view ≡ library_view t name.now)) }
 {
-    let declared = view_of(alloc, name, UnitKind::Decl, recorder)?;
-    let acting = view_of(alloc, name, UnitKind::Body, recorder)?;
-    let view = view_or(declared, acting);
+    let kind = telling_half(alloc, name, recorder)?;
+    let view = view_of(alloc, name, kind, recorder)?;
     Ok(view)
 }
 
@@ -91,7 +105,7 @@ fn is_package(view: &View) -> bool
 }
 
 /// Whether the unit is among these.
-pub(crate) fn has_unit(units: &[UnitKey], unit: &UnitKey) -> bool
+pub fn has_unit(units: &[UnitKey], unit: &UnitKey) -> bool
     ensures { result ≡ has_unit units.now unit.now }
 {
     units.iter().any(|other| is_unit(unit, other))
@@ -136,39 +150,52 @@ pub fn mention_view(
     Ok(())
 }
 
-/// Mentions the unit of that name, if it exists.
+/// Whether the unit is the declaration of that name.
+fn is_declaration(unit: &UnitKey, name: &[u8]) -> bool
+    ensures { result ≡ same_unit unit.now (declaration name.now) }
+{
+    matches!(unit.kind, UnitKind::Decl) && unit.name.as_slice() == name
+}
+
+/// Mentions the unit of that name, if it exists. The declaration `own` isn't asked what it is itself.
 fn mention_one<A: Answers>(
     alloc: Global,
+    own: &UnitKey,
     scope: &mut Scope,
     packages: &mut Seq<UnitKey>,
     name: &[u8],
     recorder: &mut Recorder<A>,
 ) -> Result<(), NoMemory>
     ensures asked { recorder.new.asked ≡ recorder.old.asked }
-    ensures answered { OnOk result (FromAnswers recorder.old.log recorder.new.log (λ t. Mentioned t name.now scope.old packages.old scope.new packages.new)) }
+    ensures answered { OnOk result (FromAnswers recorder.old.log recorder.new.log (λ t. Mentioned t own.now name.now scope.old packages.old scope.new packages.new)) }
     ensures regions { scope.new.regions ≡ scope.old.regions }
 {
+    if is_declaration(own, name) {
+        return Ok(());
+    }
     let view = library_view(alloc, name, recorder)?;
     mention_view(alloc, scope, packages, name, &view)?;
     Ok(())
 }
 
-/// Mentions the units of these names at a place, as far as they exist, and adds the packages among them to the packages.
+/// Mentions the units of these names at a place in the unit `own`, as far as they exist, and adds the packages among them to the packages. A
+/// declaration isn't asked what it is itself.
 /// # Errors
 /// `NoMemory` if the allocator refuses memory.
 pub fn mention_all<A: Answers>(
     alloc: Global,
+    own: &UnitKey,
     scope: &mut Scope,
     packages: &mut Seq<UnitKey>,
     names: &[Name],
     recorder: &mut Recorder<A>,
 ) -> Result<(), NoMemory>
     ensures asked { recorder.new.asked ≡ recorder.old.asked }
-    ensures answered { OnOk result (FromAnswers recorder.old.log recorder.new.log (λ t. (scope.new, packages.new) ≡ all_mentioned t scope.old packages.old names.now)) }
+    ensures answered { OnOk result (FromAnswers recorder.old.log recorder.new.log (λ t. (scope.new, packages.new) ≡ all_mentioned t own.now scope.old packages.old names.now)) }
     ensures regions { scope.new.regions ≡ scope.old.regions }
 {
     for name in names {
-        mention_one(alloc, scope, packages, name.as_slice(), recorder)?;
+        mention_one(alloc, own, scope, packages, name.as_slice(), recorder)?;
     }
     Ok(())
 }

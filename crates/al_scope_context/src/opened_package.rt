@@ -1,12 +1,15 @@
 // The package that a name of a use clause denotes (ARM 8.4(3)).
-ghost use Rattle.std.specs.Prelude.{◌≡◌, map, IfOk};
+ghost use Rattle.std.specs.Prelude.{◌≡◌, map, Err, IfOk, Ok, if◌then◌else◌};
 ghost use Rattle.al_overload_lookup.specs.Keys.{denoted, dotted};
+ghost use Rattle.al_overload_readings.specs.Readings.{wrong_kind};
+ghost use Rattle.al_query.specs.Known.{has_unit};
 ghost use Rattle.al_query.specs.Reads.{FromAnswers};
 ghost use Rattle.al_tree.specs.DeclarationViews.{compound_model};
 ghost use Rattle.al_tree.specs.Lexemes.{identifier_label};
 ghost use Rattle.al_base_fault.specs.Judging.{next, map_ok};
 ghost use Rattle.al_scope_context.specs.UsesAt.{denoted_package, package_at, package_under, selector_fault, visible_key};
 
+use crate::mention::has_unit;
 use al_base::{NoMemory, Place, UnitKey};
 use al_base_fault::{CheckResult, Fault};
 use al_overload_lookup::{Names, dotted, is_none, look_up_selected, not_visible};
@@ -60,17 +63,36 @@ fn visible_key(
     Ok(Ok(key))
 }
 
-/// The package among all that is visible under a name.
+/// The package, if it is among these.
+fn package_among(
+    alloc: Global,
+    packages: &[UnitKey],
+    place: Place,
+    unit: &UnitKey,
+) -> Result<CheckResult<UnitKey>, NoMemory>
+    ensures { IfOk result (λ found. found ≡ (if has_unit packages.now unit.now then Ok unit.now else Err (wrong_kind place))) }
+{
+    if has_unit(packages, unit) {
+        return Ok(Ok(copied_unit(alloc, unit)?));
+    }
+    Ok(Err(wrong_kind(place)))
+}
+
+/// The package among all that is visible under a name, if it is mentioned.
 fn package_under(
     alloc: Global,
+    packages: &[UnitKey],
     place: Place,
     views: &[View],
 ) -> Result<CheckResult<UnitKey>, NoMemory>
-    ensures { IfOk result (λ unit. unit ≡ package_under place views.now) }
+    ensures { IfOk result (λ unit. unit ≡ package_under packages.now place views.now) }
 {
     match views {
         [view, ..] => match view.kind() {
-            ViewKind::OfPackage(symbol) => Ok(Ok(copied_unit(alloc, &symbol.unit)?)),
+            ViewKind::OfPackage(symbol) => {
+                let found = package_among(alloc, packages, place, &symbol.unit)?;
+                Ok(found)
+            }
             ViewKind::OfSubprogram(_) => Ok(Err(wrong_kind(place))),
             ViewKind::OfTask(_) => Ok(Err(wrong_kind(place))),
             ViewKind::OfProtected(_) => Ok(Err(wrong_kind(place))),
@@ -88,15 +110,16 @@ fn package_under(
 /// The package under a key, if all of the key is visible.
 fn package_after(
     alloc: Global,
+    packages: &[UnitKey],
     names: &Names,
     place: Place,
     key: CheckResult<Vec<u8>>,
 ) -> Result<CheckResult<UnitKey>, NoMemory>
-    ensures { IfOk result (λ unit. unit ≡ next (map_ok (λ k. k.items) key) (λ k. package_under place ((denoted names.now).visible k))) }
+    ensures { IfOk result (λ unit. unit ≡ next (map_ok (λ k. k.items) key) (λ k. package_under packages.now place ((denoted names.now).visible k))) }
 {
     match key {
         Ok(key) => {
-            let unit = package_under(alloc, place, names.visible.views(key.as_slice()))?;
+            let unit = package_under(alloc, packages, place, names.visible.views(key.as_slice()))?;
             Ok(unit)
         }
         Err(fault) => Ok(Err(fault)),
@@ -106,10 +129,11 @@ fn package_after(
 /// The package that a name denotes, if these names of its source are found.
 fn denoted_package(
     alloc: Global,
+    packages: &[UnitKey],
     names: &Names,
     name: &CompoundName,
 ) -> Result<CheckResult<UnitKey>, NoMemory>
-    ensures { IfOk result (λ unit. unit ≡ denoted_package (denoted names.now) (compound_model name.now)) }
+    ensures { IfOk result (λ unit. unit ≡ denoted_package packages.now (denoted names.now) (compound_model name.now)) }
 {
     let first = name.first.name.as_slice();
     let place = name.first.place;
@@ -117,7 +141,7 @@ fn denoted_package(
         return Ok(Err(not_visible(&name.first)));
     }
     let key = visible_key(alloc, names, place, first, name.selectors.as_slice())?;
-    let unit = package_after(alloc, names, place, key)?;
+    let unit = package_after(alloc, packages, names, place, key)?;
     Ok(unit)
 }
 
@@ -134,6 +158,6 @@ pub(crate) fn package_at<A: Answers>(
 {
     let selectors = name.selectors.as_slice();
     let names = look_up_selected(alloc, scope, packages, &name.first, selectors, recorder)?;
-    let unit = denoted_package(alloc, &names, name)?;
+    let unit = denoted_package(alloc, packages, &names, name)?;
     Ok(unit)
 }

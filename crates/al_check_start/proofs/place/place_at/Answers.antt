@@ -24,7 +24,7 @@ returns-clause-answered g c t h =
     let packages = c.in_ok-mention_view.ensures.packages ∙ ap (λ (n : List ℕ). packaged view n c.args.packages.now) c.as_slice.ensures ∙ ap (packaged view name) c.requires in (
       entered.0,
       all.1
-          ∙ ap (λ (ns : List (List ℕ)). all_mentioned t c.mention_view.new.scope c.mention_view.new.packages ns) (c.as_slice-2.ensures.value ∙ names.1)
-          ∙ ap (λ (s : Place). all_mentioned t s c.mention_view.new.packages (mentioned_names t own)) scope
-          ∙ ap (λ (ps : List UnitKey). all_mentioned t (mentioned view name in_place) ps (mentioned_names t own)) packages,
+          ∙ ap (λ (ns : List (List ℕ)). all_mentioned t own.unit c.mention_view.new.scope c.mention_view.new.packages ns) (c.as_slice-2.ensures.value ∙ names.1)
+          ∙ ap (λ (s : Place). all_mentioned t own.unit s c.mention_view.new.packages (mentioned_names t own)) scope
+          ∙ ap (λ (ps : List UnitKey). all_mentioned t own.unit (mentioned view name in_place) ps (mentioned_names t own)) packages,
     )

@@ -2,7 +2,7 @@ use Rattle.std.proofs.Common.{◌≡◌, ◌∙◌, [], ℕ, List, drop, ap, sym
 use Rattle.std.specs.Prelude.{fold}
 use Rattle.std.proofs.lemmas.List.{drop_all}
 use Rattle.al_scope_context.specs.Contexts.{Mentioned, with_mention}
-use Rattle.al_scope_context.proofs.Steps.{fold-step, pair-is}
+use Rattle.al_scope_context.proofs.Steps.{fold-step}
 use Rattle.al_scope_context.proofs.mention.mention_all.Goals as goal
 
 pub loop-name-preserved : goal.loop-name-preserved
@@ -15,8 +15,8 @@ loop-name-preserved g c =
       asked = c.mention_one.ensures.asked ∙ i.asked;
       answered = λ t h. let answered = c.in_ok-mention_one.ensures.answered t h in
           let before = i.answered t answered.0 in
-          let one = subst (λ (n : List ℕ). Mentioned t n scope packages c.mention_one.new.scope c.mention_one.new.packages) c.as_slice.ensures answered.1 in
-          (before.0, fold-step (with_mention t) c.args.names.now c.loop-name.name-index name (scope, packages) (c.mention_one.new.scope, c.mention_one.new.packages) _ (omega arith) c.name-item.is (pair-is c.mention_one.new.scope _ c.mention_one.new.packages _ one.0 one.1) before.1);
+          let one = subst (λ (n : List ℕ). Mentioned t c.args.own.now n scope packages c.mention_one.new.scope c.mention_one.new.packages) c.as_slice.ensures answered.1 in
+          (before.0, fold-step (with_mention t c.args.own.now) c.args.names.now c.loop-name.name-index name (scope, packages) (c.mention_one.new.scope, c.mention_one.new.packages) _ (omega arith) c.name-item.is one before.1);
       regions = c.mention_one.ensures.regions ∙ i.regions;
     }
 
@@ -24,4 +24,4 @@ pub returns-clause-answered : goal.returns-clause-answered
 returns-clause-answered g c t h =
     let before = c.loop-name.invariant.answered t h in
     let none : drop c.loop-name.name-index c.args.names.now ≡ [] = drop_all c.loop-name.name-index c.args.names.now (omega arith) in
-    (before.0, ap (fold (with_mention t) (c.loop-name.scope, c.loop-name.packages)) (sym none) ∙ before.1)
+    (before.0, ap (fold (with_mention t c.args.own.now) (c.loop-name.scope, c.loop-name.packages)) (sym none) ∙ before.1)

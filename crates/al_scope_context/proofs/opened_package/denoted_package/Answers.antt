@@ -22,5 +22,5 @@ returns c =
     let none : is_none (views_of names.visible n.first.text) ≡ false =
     sym (ap (λ (vs : List ViewKind). is_none vs) (c.views.ensures ∙ ap (views_of names.visible) c.as_slice-first.ensures)) ∙ sym c.is_none.ensures ∙ c.if-is_none.false in
     c.in_ok-unit.ensures
-    ∙ ap (λ (r : Result (List ℕ) Fault). next r (λ (k : List ℕ). package_under p (views_of names.visible k))) key
-    ∙ ap (λ (b : Bool). if b then Err (not_visible n.first) else next (visible_key (denoted names) p n.first.text n.selectors) (λ (k : List ℕ). package_under p (views_of names.visible k))) (sym none)
+    ∙ ap (λ (r : Result (List ℕ) Fault). next r (λ (k : List ℕ). package_under c.args.packages.now p (views_of names.visible k))) key
+    ∙ ap (λ (b : Bool). if b then Err (not_visible n.first) else next (visible_key (denoted names) p n.first.text n.selectors) (λ (k : List ℕ). package_under c.args.packages.now p (views_of names.visible k))) (sym none)

@@ -14,4 +14,4 @@ unfolding package_at
 returns-clause-answered g c t h =
     let answered = c.in_ok-names.ensures.answered t h in
     let name = compound_model c.args.name.now in
-    (answered.0, c.in_ok-unit.ensures ∙ ap (λ (n : Names). denoted_package (denoted n) name) (answered.1 ∙ ap (λ (xs : List Identifier). looked_up_all t c.args.scope.now c.args.packages.now (identifier_names (identifier_label c.args.name.now.first) (map identifier_label xs))) c.as_slice-selectors.ensures.value))
+    (answered.0, c.in_ok-unit.ensures ∙ ap (λ (n : Names). denoted_package c.args.packages.now (denoted n) name) (answered.1 ∙ ap (λ (xs : List Identifier). looked_up_all t c.args.scope.now c.args.packages.now (identifier_names (identifier_label c.args.name.now.first) (map identifier_label xs))) c.as_slice-selectors.ensures.value))
