@@ -13,7 +13,7 @@ use Rattle.al_unit_graph.specs.Orders.{key_cmp}
 use Rattle.al_query_outcome.specs.Equations.{is_reached, table}
 use Rattle.al_engine_refresh.specs.EntryLaw.{HasCurrent, TextMeaning}
 use Rattle.al_engine_refresh.specs.Stored.{Stored}
-use Rattle.al_engine_refresh.specs.Builds.{raised, results_of, text_of}
+use Rattle.al_engine_refresh.specs.Builds.{present, raised, results_of, text_of}
 use Rattle.al_engine_refresh.specs.Staying.{is_there, or_else, staying}
 use Rattle.al_engine.specs.Rechecks.{AreReady, setting_of}
 use Rattle.al_engine.proofs.RecheckLemmas.{settled}
@@ -21,6 +21,8 @@ use Rattle.al_engine.specs.UnitCache.{Kept}
 use Rattle.al_engine.specs.declared.graph.UnitGraph.{UnitGraph}
 use Rattle.al_engine.specs.Patches.{linked_in}
 use Rattle.al_engine.proofs.PatchLemmas.{stays-patched}
+use Rattle.al_engine.specs.Reasons.{AreReasons}
+use Rattle.al_engine.specs.declared.reasons.Reason.{Reason}
 use Rattle.al_engine.specs.Rebuilds.{IsRebuilt, IsWithin, is_moved}
 use Rattle.al_engine.proofs.WithinLemmas.{still-within}
 use Rattle.al_engine.specs.declared.rebuilding.Rebuilt.{Rebuilt}
@@ -40,12 +42,18 @@ stays is (Some e) before = refl
 stays true None before = refl
 stays false None before = refl
 
+-- no reasons are those of no units
+bare-reasons : (predefined : Query → AnswerKind) (lib : Library) (at made : UnitKey → Option Stored) (checked : List UnitKey) (reasons : List Reason) → checked ≡ [] → reasons ≡ [] → AreReasons (present predefined (results_of made)) lib at checked reasons
+bare-reasons predefined lib at made checked reasons none bare =
+    subst (λ (us : List UnitKey). AreReasons (present predefined (results_of made)) lib at us reasons) (sym none)
+    (subst (λ (rs : List Reason). AreReasons (present predefined (results_of made)) lib at [] rs) (sym bare) tt)
+
 -- no units are in order
 none-ascend : IsStrictlySortedBy key_cmp (map key_of [])
 unfolding IsStrictlySortedBy
 none-ascend = tt
 
-module _ (meaning : TextMeaning) (header : List ℕ → Header) (predefined : Query → AnswerKind) (lib : Library) (main : List ℕ) (before entries : UnitKey → Option Stored) (rebuilt : Rebuilt) (is : IsRebuilt meaning header predefined lib main before entries rebuilt) (checked : List UnitKey) (none : checked ≡ []) where
+module _ (meaning : TextMeaning) (header : List ℕ → Header) (predefined : Query → AnswerKind) (lib : Library) (main : List ℕ) (before entries : UnitKey → Option Stored) (rebuilt : Rebuilt) (is : IsRebuilt meaning header predefined lib main before entries rebuilt) (checked : List UnitKey) (none : checked ≡ []) (reasons : List Reason) where
   current : (u : UnitKey) → is_reached (setting_of header predefined lib) (results_of is.made) u ≡ true → HasCurrent (entries u) (text_of lib u) (table (setting_of header predefined lib) (results_of is.made))
   current u r =
       subst (λ (o : Option Stored). HasCurrent o (text_of lib u) (table (setting_of header predefined lib) (results_of is.made))) (sym (is.entries u))
@@ -57,7 +65,7 @@ module _ (meaning : TextMeaning) (header : List ℕ → Header) (predefined : Qu
       ∙ ap (λ (o : Option Stored). or_else (is.made u) (if is_there lib u then o else None)) (sym (is.entries u))
 
   -- it checks nothing, gives the same, and leaves the entries as they are
-  rebuilt-again : IsRebuilt meaning header predefined lib main entries entries (record { compiled = rebuilt.compiled; checked = checked; compared = 0; patched = 0; earlier = rebuilt.earlier })
+  rebuilt-again : IsRebuilt meaning header predefined lib main entries entries (record { compiled = rebuilt.compiled; checked = checked; reasons = reasons; compared = 0; patched = 0; earlier = rebuilt.earlier })
   rebuilt-again = record {
     made = is.made;
     rechecked = record {
@@ -78,16 +86,16 @@ module _ (meaning : TextMeaning) (header : List ℕ → Header) (predefined : Qu
   }
 
 -- the same result with another list of checked units, and no unit written
-abbrev pub gave_again : Rebuilt → List UnitKey → Rebuilt
-gave_again gave checked = record { compiled = gave.compiled; checked = checked; compared = 0; patched = 0; earlier = gave.earlier }
+abbrev pub gave_again : Rebuilt → List UnitKey → List Reason → Rebuilt
+gave_again gave checked reasons = record { compiled = gave.compiled; checked = checked; reasons = reasons; compared = 0; patched = 0; earlier = gave.earlier }
 
-abbrev again : Built → List UnitKey → Built
-again b checked = record { files = b.files; main = b.main; gave = gave_again b.gave checked }
+abbrev again : Built → List UnitKey → List Reason → Built
+again b checked reasons = record { files = b.files; main = b.main; gave = gave_again b.gave checked reasons }
 
 module _ (meaning : TextMeaning) (header : List ℕ → Header) (predefined : Query → AnswerKind) (library : Texts → Library) where
-  settled-again : (store : Entries) (b : Built) (checked : List UnitKey) → checked ≡ [] → IsSettledBy meaning header predefined library store b
-      → IsRebuilt meaning header predefined (library b.files) b.main (settled_at store) (settled_at store) (gave_again b.gave checked)
-  settled-again store b checked none is = rebuilt-again meaning header predefined (library b.files) b.main is.before (settled_at store) b.gave is.rebuilt checked none
+  settled-again : (store : Entries) (b : Built) (checked : List UnitKey) (reasons : List Reason) → checked ≡ [] → IsSettledBy meaning header predefined library store b
+      → IsRebuilt meaning header predefined (library b.files) b.main (settled_at store) (settled_at store) (gave_again b.gave checked reasons)
+  settled-again store b checked reasons none is = rebuilt-again meaning header predefined (library b.files) b.main is.before (settled_at store) b.gave is.rebuilt checked none reasons
 
   -- a unit that has an entry is in the library
   settled-there : (store : Entries) (b : Built) → IsSettledBy meaning header predefined library store b → (u : UnitKey) → is_some (settled_at store u) ≡ true → is_there (library b.files) u ≡ true
@@ -125,66 +133,66 @@ module _ (meaning : TextMeaning) (header : List ℕ → Header) (predefined : Qu
           ∙ ap (λ (x : Bool). x || differ (state store u).was_reached (state store u).was_reached) (gone u (is_some (settled_at store u)) refl)
           ∙ differ_same (state store u).was_reached
 
-  right-some : (files : Texts) (store : Entries) (is_edited : Bool) (graph : Option Remembered) (b : Built) (checked : List UnitKey) → checked ≡ [] → IsRight meaning header predefined library files store is_edited graph (Some b) b.gave.compiled
-      → IsRight meaning header predefined library files store is_edited graph (Some (again b checked)) b.gave.compiled
+  right-some : (files : Texts) (store : Entries) (is_edited : Bool) (graph : Option Remembered) (b : Built) (checked : List UnitKey) (reasons : List Reason) → checked ≡ [] → IsRight meaning header predefined library files store is_edited graph (Some b) b.gave.compiled
+      → IsRight meaning header predefined library files store is_edited graph (Some (again b checked reasons)) b.gave.compiled
   unfolding settled-again rebuilt-again
-  right-some files store is_edited graph b checked none right = record {
+  right-some files store is_edited graph b checked reasons none right = record {
     read = right.read;
     predefined_units = right.predefined_units;
     built_right = right.built_right;
-    settled = record { before = settled_at store; rebuilt = settled-again store b checked none right.settled; reached = right.settled.reached };
+    settled = record { before = settled_at store; rebuilt = settled-again store b checked reasons none right.settled; reached = right.settled.reached };
     unedited = right.unedited;
     ready = right.ready;
     keeps_graph = right.keeps_graph;
     first = λ e. absurd (cc);
   }
 
-  build-at : {C P : Type 0} (count : C → ℕ) (cache : Kept C) (pre : P) (b : Built) (checked : List UnitKey) → checked ≡ [] → IsSettledBy meaning header predefined library cache.store b → AreReady predefined cache.store → count cache.checker < 2 ^ 64
-      → IsBuild meaning header count predefined library b.main (record { cache = cache; predefined = pre; files = b.files; built = Some b }) (record { cache = cache; predefined = pre; files = b.files; built = Some (again b checked) })
+  build-at : {C P : Type 0} (count : C → ℕ) (cache : Kept C) (pre : P) (b : Built) (checked : List UnitKey) (reasons : List Reason) → checked ≡ [] → reasons ≡ [] → IsSettledBy meaning header predefined library cache.store b → AreReady predefined cache.store → count cache.checker < 2 ^ 64
+      → IsBuild meaning header count predefined library b.main (record { cache = cache; predefined = pre; files = b.files; built = Some b }) (record { cache = cache; predefined = pre; files = b.files; built = Some (again b checked reasons) })
   unfolding settled-again rebuilt-again
-  build-at count cache pre b checked none is ready bound = record {
-    last = again b checked;
+  build-at count cache pre b checked reasons none bare is ready bound = record {
+    last = again b checked reasons;
     is_last = refl;
     files_are = refl;
     main_is = refl;
-    rebuilt = settled-again cache.store b checked none is;
-    remembered = record { reached = is.reached; ready = ready; compared = within-again cache.store b checked none is };
+    rebuilt = settled-again cache.store b checked reasons none is;
+    remembered = record { reached = is.reached; ready = ready; compared = within-again cache.store b checked none is; reasons = bare-reasons predefined (library b.files) (settled_at cache.store) is.rebuilt.made checked reasons none bare };
     patched = stays-patched (linked_in b.gave.compiled);
     counted = raised-none (count cache.checker) bound ∙ ap (λ (us : List UnitKey). raised (count cache.checker) (length us)) (sym none);
   }
 
-  build-some : {C P : Type 0} (count : C → ℕ) (cache : Kept C) (pre : P) (files : Texts) (main : List ℕ) (b : Built) (checked : List UnitKey) → checked ≡ [] → IsSettledBy meaning header predefined library cache.store b → AreReady predefined cache.store
+  build-some : {C P : Type 0} (count : C → ℕ) (cache : Kept C) (pre : P) (files : Texts) (main : List ℕ) (b : Built) (checked : List UnitKey) (reasons : List Reason) → checked ≡ [] → reasons ≡ [] → IsSettledBy meaning header predefined library cache.store b → AreReady predefined cache.store
       → count cache.checker < 2 ^ 64 → (b.files ≡ files) × (b.main ≡ main)
-      → IsBuild meaning header count predefined library main (record { cache = cache; predefined = pre; files = files; built = Some b }) (record { cache = cache; predefined = pre; files = files; built = Some (again b checked) })
-  build-some count cache pre files main b checked none is ready bound of-now =
-      subst (λ (f : Texts). IsBuild meaning header count predefined library main (record { cache = cache; predefined = pre; files = f; built = Some b }) (record { cache = cache; predefined = pre; files = f; built = Some (again b checked) })) of-now.0
-      (subst (λ (m : List ℕ). IsBuild meaning header count predefined library m (record { cache = cache; predefined = pre; files = b.files; built = Some b }) (record { cache = cache; predefined = pre; files = b.files; built = Some (again b checked) })) of-now.1
-      (build-at count cache pre b checked none is ready bound))
+      → IsBuild meaning header count predefined library main (record { cache = cache; predefined = pre; files = files; built = Some b }) (record { cache = cache; predefined = pre; files = files; built = Some (again b checked reasons) })
+  build-some count cache pre files main b checked reasons none bare is ready bound of-now =
+      subst (λ (f : Texts). IsBuild meaning header count predefined library main (record { cache = cache; predefined = pre; files = f; built = Some b }) (record { cache = cache; predefined = pre; files = f; built = Some (again b checked reasons) })) of-now.0
+      (subst (λ (m : List ℕ). IsBuild meaning header count predefined library m (record { cache = cache; predefined = pre; files = b.files; built = Some b }) (record { cache = cache; predefined = pre; files = b.files; built = Some (again b checked reasons) })) of-now.1
+      (build-at count cache pre b checked reasons none bare is ready bound))
 
 -- the last build is repeated, and no unit is checked
-module _ (meaning : TextMeaning) (header : List ℕ → Header) (library : Texts → Library) {X : Type 0} (remembered : X → Remembered) (files_of : X → Texts) (main_of : X → List ℕ) (gave : Rebuilt) (checked : List UnitKey) (none : checked ≡ []) (files : Texts) (is_edited : Bool) where
+module _ (meaning : TextMeaning) (header : List ℕ → Header) (library : Texts → Library) {X : Type 0} (remembered : X → Remembered) (files_of : X → Texts) (main_of : X → List ℕ) (gave : Rebuilt) (checked : List UnitKey) (none : checked ≡ []) (reasons : List Reason) (bare : reasons ≡ []) (files : Texts) (is_edited : Bool) where
   abbrev pub built_of : Rebuilt → Option X → Option Built
   built_of g last = option_map (λ x. record { files = files_of x; main = main_of x; gave = g }) last
 
   pub right-again : (last : Option X) (predefined : Query → AnswerKind) (store : Entries) → IsRight meaning header predefined library files store is_edited (option_map remembered last) (built_of gave last) gave.compiled
-      → IsRight meaning header predefined library files store is_edited (option_map remembered last) (built_of (gave_again gave checked) last) gave.compiled
+      → IsRight meaning header predefined library files store is_edited (option_map remembered last) (built_of (gave_again gave checked reasons) last) gave.compiled
   right-again None predefined store right = right
   right-again (Some x) predefined store right =
-      right-some meaning header predefined library files store is_edited (Some (remembered x)) (record { files = files_of x; main = main_of x; gave = gave }) checked none right
+      right-some meaning header predefined library files store is_edited (Some (remembered x)) (record { files = files_of x; main = main_of x; gave = gave }) checked reasons none right
 
   module _ {C P : Type 0} (count : C → ℕ) (table : P → Query → AnswerKind) (cache : Kept C) (pre : P) (bound : count cache.checker < 2 ^ 64) (main : List ℕ) where
     abbrev pub held : Rebuilt → Option X → Held C P
     held g last = record { cache = cache; predefined = pre; files = files; built = built_of g last }
 
     of-held : (last : Option X) → IsRight meaning header (table pre) library files cache.store is_edited (option_map remembered last) (built_of gave last) gave.compiled → IsOfNow files main (built_of gave last)
-        → IsBuild meaning header count (table pre) library main (held gave last) (held (gave_again gave checked) last)
+        → IsBuild meaning header count (table pre) library main (held gave last) (held (gave_again gave checked reasons) last)
     of-held None right of-now = absurd of-now
     of-held (Some x) right of-now =
-        build-some meaning header (table pre) library count cache pre files main (record { files = files_of x; main = main_of x; gave = gave }) checked none right.settled right.ready bound of-now
+        build-some meaning header (table pre) library count cache pre files main (record { files = files_of x; main = main_of x; gave = gave }) checked reasons none bare right.settled right.ready bound of-now
 
     pub build-again : (last : Option X) (old : Held C P) → held gave last ≡ old
         → IsRight meaning header (table pre) library files cache.store is_edited (option_map remembered last) (built_of gave last) gave.compiled → IsOfNow old.files main old.built
-        → IsBuild meaning header count (table old.predefined) library main old (held (gave_again gave checked) last)
+        → IsBuild meaning header count (table old.predefined) library main old (held (gave_again gave checked reasons) last)
     build-again last old view right of-now =
-        subst (λ (h : Held C P). IsBuild meaning header count (table h.predefined) library main h (held (gave_again gave checked) last)) view
+        subst (λ (h : Held C P). IsBuild meaning header count (table h.predefined) library main h (held (gave_again gave checked reasons) last)) view
         (of-held last right (subst (λ (h : Held C P). IsOfNow h.files main h.built) (sym view) of-now))

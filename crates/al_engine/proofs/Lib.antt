@@ -19,12 +19,14 @@ mod Left
 pub mod LinkLemmas
 pub mod MainDefined
 mod Obsolete
+mod OneFaulty
 pub mod OrderLemmas
 pub mod Parts
 pub mod PatchLemmas
 pub mod PlacedLemmas
 mod Readings
 pub mod ReadyLemmas
+mod ReasonLemmas
 mod RebuildClean
 mod RebuildObjects
 pub mod RebuildPlacing

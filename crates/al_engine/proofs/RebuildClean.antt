@@ -1,5 +1,5 @@
 -- The files have no errors after some units were edited, if nothing else was.
-use Rattle.std.proofs.Common.{◌≡◌, ◌||◌, ◌&&◌, ◌∙◌, Bor, Bool, true, false, List, [], ◌∷◌, Option, Some, None, IfSome, refl, sym, ap, subst}
+use Rattle.std.proofs.Common.{◌≡◌, ◌||◌, Bor, Bool, true, false, List, [], ◌∷◌, Option, Some, None, IfSome, refl, sym, ap, subst}
 use Rattle.std.specs.List.{list_all}
 use Rattle.std.proofs.lemmas.Bool.{true≢false}
 use Rattle.al_view.specs.Symbols.{same_unit}
@@ -13,7 +13,7 @@ use Rattle.al_query_outcome.specs.Equations.{is_sound}
 use Rattle.al_engine_refresh.specs.Stored.{Stored, outcome_of}
 use Rattle.al_engine_refresh.specs.Builds.{results_of}
 use Rattle.al_engine_refresh.specs.Found.{findings_of}
-use Rattle.al_engine.specs.RecheckEdits.{IsRenewal, units_of}
+use Rattle.al_engine.specs.RecheckEdits.{units_of}
 use Rattle.al_engine.specs.declared.edited.EditedUnit.{EditedUnit}
 use Rattle.al_engine.specs.Renewed.{IsCleanBut}
 
@@ -32,8 +32,6 @@ each-sound made (e ∷ es) all u h = by (same_unit u e.unit) refl h (each-sound 
     by true k m later = subst (λ (x : UnitKey). is_sound (results_of made x) ≡ true) (sym (same_unit-one u e.unit k)) two.0
     by false k m later = later m
 
-pub clean-now : (lib : Library) (old made : UnitKey → Option Stored) (found : Option (Bor (List EditedUnit))) → IfSome found (λ edits. IsCleanBut lib old (units_of edits.now)) → IfSome found (λ edits. IsRenewal old (units_of edits.now) made) → MatchOption found ⊥ (λ edits. AreSound made edits.now) → findings_of lib (results_of made) ≡ []
-clean-now lib old made None but renewed sound = absurd sound
-clean-now lib old made (Some edits) but renewed sound =
-    let is : IsRenewal old (units_of edits.now) made = renewed in
-    but (results_of made) (λ w k. ap (option_map outcome_of) (is.others w k)) sound
+pub clean-now : (lib : Library) (old made : UnitKey → Option Stored) (found : Option (Bor (List EditedUnit))) → IfSome found (λ edits. IsCleanBut lib old (units_of edits.now)) → IfSome found (λ edits. (w : UnitKey) → has_unit (units_of edits.now) w ≡ false → made w ≡ old w) → MatchOption found ⊥ (λ edits. AreSound made edits.now) → findings_of lib (results_of made) ≡ []
+clean-now lib old made None but others sound = absurd sound
+clean-now lib old made (Some edits) but others sound = but (results_of made) (λ w k. ap (option_map outcome_of) (others w k)) sound

@@ -21,6 +21,7 @@ pub mod Plans
 pub mod Prepared
 pub mod Programs
 pub mod Readings
+pub mod Reasons
 pub mod RebuildPartitions
 pub mod Rebuilds
 pub mod RecheckEdits

@@ -8,13 +8,14 @@ use Rattle.al_query.specs.Known.{has_unit}
 use Rattle.al_query_store.specs.Changes.{HasAnswers}
 use Rattle.al_query_store.specs.Keyed.{before_at, differ, settled_at, state}
 use Rattle.al_engine_refresh.specs.Moves.{Entries}
-use Rattle.al_engine_refresh.specs.Builds.{raised, results_of}
+use Rattle.al_engine_refresh.specs.Builds.{present, raised, results_of}
 use Rattle.al_engine_refresh.specs.EntryLaw.{TextMeaning}
 use Rattle.al_engine_refresh.specs.Stored.{Stored, log_of}
 use Rattle.al_engine_refresh.specs.Staying.{is_there, staying}
 use Rattle.al_engine.specs.Rechecks.{AreReady, IsRechecked, setting_of}
 use Rattle.al_engine.specs.Batches.{IsBatch, IsCompiled}
 use Rattle.al_engine.specs.Earlier.{KeepsEarlier}
+use Rattle.al_engine.specs.Reasons.{AreReasons}
 use Rattle.al_engine.specs.declared.rebuilding.Rebuilt.{Rebuilt}
 
 -- the units that it checked and the entries that it made over those of before; the result of compiling for the main unit with the
@@ -59,3 +60,5 @@ pub record IsKept (predefined : Query → AnswerKind) (lib : Library) (old new :
   pub ready : AreReady predefined new
   -- how many stored answers it compared
   pub compared : IsWithin lib rebuilt.checked old new rebuilt.compared
+  -- why it checked each unit, under the answers of the units that it reached
+  pub reasons : AreReasons (present predefined (results_of made)) lib (settled_at old) rebuilt.checked rebuilt.reasons

@@ -21,6 +21,7 @@ use Rattle.al_engine.specs.Patches.{linked_in}
 use Rattle.al_engine.specs.declared.compiled.Compiled.{Compiled}
 use Rattle.al_engine.specs.Graphs.{KeepsGraph, Remembered}
 use Rattle.al_engine.specs.Rebuilds.{IsRebuilt}
+use Rattle.al_engine.specs.declared.reasons.Reason.{Reason}
 use Rattle.al_engine.specs.declared.rebuilding.Rebuilt.{Rebuilt}
 
 -- the files of a build, its main unit, and its result
@@ -77,6 +78,10 @@ pub record IsRight (meaning : TextMeaning) (header : List ℕ → Header) (prede
 -- the units that the last build checked
 abbrev pub last_checked : Option Built → List UnitKey
 last_checked built = option_map_or (λ b. b.gave.checked) built []
+
+-- why the last build checked each of them
+abbrev pub last_reasons : Option Built → List Reason
+last_reasons built = option_map_or (λ b. b.gave.reasons) built []
 
 -- how many stored answers the last build compared
 abbrev pub compared_last : Option Built → ℕ

@@ -65,7 +65,7 @@ fn begin<R: ReadFiles, C: UnitCheck, P: Answers>(
     requires edited { IfSome edited (λ e. IfSome last.now (λ b. HaveSameHeaders (R.library (R.files b.read)) (R.library (R.files read.now)) × HaveTextsBut (R.library (R.files b.read)) (R.library (R.files read.now)) e)) }
     ensures graph { IfOk result (λ b. IsGraphOf (R.library (R.files read.now)) b.graph.value) }
     ensures orders { IfOk result (λ b. AreElaborations (R.library (R.files read.now)) (map (λ o. o.value) b.orders.items)) }
-    ensures prepared { IfOk result (λ b. IsPrepared C.meaning C.Text.header (P.table predefined.now) (R.library (R.files read.now)) main.now gave.now cache.old.store b.prepared.base b.prepared.planned cache.new.store b.prepared.checked.items b.prepared.compared) }
+    ensures prepared { IfOk result (λ b. IsPrepared C.meaning C.Text.header (P.table predefined.now) (R.library (R.files read.now)) main.now gave.now cache.old.store b.prepared.base b.prepared.planned cache.new.store b.prepared.checked.items b.prepared.reasons.items b.prepared.compared) }
     ensures counted { IfOk result (λ b. C.count cache.new.checker ≡ raised (C.count cache.old.checker) (length b.prepared.checked.items)) }
     ensures left { IsLeft cache.old.store cache.new.store }
 {

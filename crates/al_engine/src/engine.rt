@@ -3,12 +3,12 @@ ghost use Rattle.std.specs.Prelude.{◌≡◌, ℕ, List, [], None, Some, Ok, Er
 ghost use Rattle.al_base.specs.Batch.{key_of};
 ghost use Rattle.al_base.specs.Files.{with_file, without_file, with_renamed, put_refusal, delete_refusal, rename_refusal, AnswersRefusal, AnswersFirst};
 ghost use Rattle.al_unit_faults.specs.Units.{unit_model, units_of};
-ghost use Rattle.al_query_store.specs.Keyed.{SameStates, settled_at};
+ghost use Rattle.al_query_store.specs.Keyed.{SameStates, now_at, settled_at};
 ghost use Rattle.al_engine_refresh.specs.EntryLaw.{AllKeepLaw};
 ghost use Rattle.al_engine_refresh.specs.Settings.{ArePredefined};
 ghost use Rattle.al_engine.specs.Answers.{answer_of};
 ghost use Rattle.al_engine.specs.Gave.{order_of, program_of};
-ghost use Rattle.al_engine.specs.States.{AreReadFor, IsBuiltRight, IsOfNow, compared_last, last_checked, patched_last};
+ghost use Rattle.al_engine.specs.States.{AreReadFor, IsBuiltRight, IsOfNow, compared_last, last_checked, last_reasons, patched_last};
 ghost use Rattle.al_engine.specs.Builds.{IsBuild};
 ghost use Rattle.al_engine.specs.Reports.{found_last, gave_last, obsolete_refusal, obsolete_since, reported};
 ghost use Rattle.al_engine.specs.Runs.{AnswersRun};
@@ -18,8 +18,8 @@ use crate::last_build::LastBuild;
 use crate::read_files::ReadFiles;
 use crate::reading::{alone_now, read, read_now, read_twice};
 use crate::{
-    BuildAnswer, Compiled, Program, Rebuilt, UnitCache, answer_of, diagnostics_of, order_of,
-    program_of,
+    BuildAnswer, Compiled, Program, Reason, Rebuilt, UnitCache, answer_of, diagnostics_of,
+    order_of, program_of,
 };
 use al_base::{Diagnostic, Files, Name, NoMemory, Refusal, UnitKey};
 use al_query::Answers;
@@ -205,6 +205,7 @@ impl<R: ReadFiles, C: UnitCheck, P: Answers> Engine<R, C, P> {
     {
         let _before = self.cache.checks();
         self.gave.checked = Seq::empty(self.alloc);
+        self.gave.reasons = Seq::empty(self.alloc);
         self.gave.compared = 0;
         self.gave.patched = 0;
     }
@@ -275,6 +276,24 @@ impl<R: ReadFiles, C: UnitCheck, P: Answers> Engine<R, C, P> {
             Some(_) => self.gave.checked.as_slice(),
             None => &[],
         }
+    }
+
+    /// Why the last build checked each of these units, in their order. It takes no memory.
+    pub fn last_reasons(&self) -> &[Reason]
+        ensures { result.now ≡ last_reasons self.now.built }
+    {
+        match &self.last {
+            Some(_) => self.gave.reasons.as_slice(),
+            None => &[],
+        }
+    }
+
+    /// How many answers are stored of a unit that the last build reached: it asked for so much of other units when it was checked. It takes no memory.
+    pub fn look_ups(&self, unit: &UnitKey) -> Option<usize>
+        ensures { result ≡ option_map (λ e. length e.log) (now_at self.now.cache.store unit.now) }
+    {
+        let entry = self.cache.entries().get(unit)?;
+        Some(entry.log().len())
     }
 
     /// How many stored answers the last build compared with those of now, to 2^64-1; 0 before the first build. It takes no memory.

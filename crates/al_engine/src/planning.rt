@@ -6,7 +6,7 @@ ghost use Rattle.al_bind.specs.Binding.{IsBindFault, IsElaboration};
 ghost use Rattle.al_unit_faults.specs.FilesSeen.{file_faults_model};
 ghost use Rattle.al_unit_faults.specs.GraphFaults.{file_faults};
 ghost use Rattle.al_query_store.specs.Keyed.{now_at};
-ghost use Rattle.al_engine_refresh.specs.Found.{findings_of};
+ghost use Rattle.al_engine_refresh.specs.Found.{AreToldAlone, findings_of};
 ghost use Rattle.al_engine_refresh.specs.Builds.{results_of};
 ghost use Rattle.al_engine.specs.Objects.{AreCoded};
 ghost use Rattle.al_engine.specs.ObjectsSeen.{object_model};
@@ -79,26 +79,28 @@ fn partition_of(
     })
 }
 
-/// All errors in the files. They aren't looked for if it is known that there are none.
+/// All errors in the files. They aren't looked for if it is known that there are none, and only in one file, if it is known that no other has any.
 fn found_in(
     alloc: Global,
     sources: &Sources,
     entries: &KeptEntries,
     faults: &[FileFaults],
     is_clean: bool,
+    alone: Option<&[u8]>,
 ) -> Result<Vec<Diagnostic>, NoMemory>
     requires faults { map file_faults_model faults.now ≡ map (λ file. (file, file_faults sources.now file)) (keys_of sources.now) }
     requires clean { IsTrue is_clean → findings_of sources.now (results_of (now_at entries.now)) ≡ [] }
+    requires alone { IfSome alone (λ file. AreToldAlone sources.now (results_of (now_at entries.now)) file.now) }
     ensures { IfOk result (λ found. map finding_of found.items ≡ findings_of sources.now (results_of (now_at entries.now))) }
 {
     if is_clean {
         return Ok(Vec::new(alloc));
     }
-    findings_of(alloc, sources, entries, faults)
+    findings_of(alloc, sources, entries, faults, alone)
 }
 
 /// The result of compiling the files for a main unit, if the units have these entries, up to the image. A known order of elaboration isn't looked for
-/// again, and errors aren't looked for if it is known that there are none.
+/// again, and errors aren't looked for where it is known that there are none: in all files, or in all but `alone`.
 ///
 /// # Errors
 ///
@@ -111,14 +113,16 @@ pub fn plan(
     main: &[u8],
     known: Option<&[UnitKey]>,
     is_clean: bool,
+    alone: Option<&[u8]>,
 ) -> Result<Planned, NoMemory>
     requires faults { map file_faults_model faults.now ≡ map (λ file. (file, file_faults sources.now file)) (keys_of sources.now) }
     requires coded { AreCoded (now_at entries.now) }
     requires known { IfSome known (λ order. IsElaboration sources.now main.now (map key_of order.now)) }
     requires clean { IsTrue is_clean → findings_of sources.now (results_of (now_at entries.now)) ≡ [] }
+    requires alone { IfSome alone (λ file. AreToldAlone sources.now (results_of (now_at entries.now)) file.now) }
     ensures { IfOk result (λ planned. (before : Compiled) → IsPlanned sources.now (results_of (now_at entries.now)) main.now before planned) }
 {
-    let found = found_in(alloc, sources, entries, faults, is_clean)?;
+    let found = found_in(alloc, sources, entries, faults, is_clean, alone)?;
     if !found.is_empty() {
         return Ok(Planned::Faulty(found));
     }

@@ -3,6 +3,7 @@ ghost use Rattle.std.specs.Prelude.{ℕ, ◌≡◌, ◌∷◌, [], true, false, 
 ghost use Rattle.std.specs.List.{list_all};
 ghost use Rattle.std.specs.Map.{keys_of};
 ghost use Rattle.al_base.specs.Batch.{key_of};
+ghost use Rattle.al_base.specs.FileNames.{file_name_of};
 ghost use Rattle.al_base.specs.declared.unit_key.UnitKey.{UnitKey};
 ghost use Rattle.al_bind.specs.Binding.{IsElaboration};
 ghost use Rattle.al_unit_faults.specs.FilesSeen.{file_faults_model};
@@ -19,7 +20,7 @@ ghost use Rattle.al_engine_refresh.specs.Moves.{Entries, IsLeft};
 ghost use Rattle.al_engine.specs.Kept.{IsGraphOf};
 ghost use Rattle.al_engine_refresh.specs.Settings.{ArePredefined};
 ghost use Rattle.al_engine_refresh.specs.Builds.{raised, results_of};
-ghost use Rattle.al_engine_refresh.specs.Found.{findings_of};
+ghost use Rattle.al_engine_refresh.specs.Found.{AreToldAlone, findings_of};
 ghost use Rattle.al_engine.specs.Objects.{AreCoded};
 ghost use Rattle.al_engine.specs.Patches.{IsPatched, linked_in};
 ghost use Rattle.al_engine.specs.Plans.{IsClosedPlan, IsPlanned};
@@ -35,8 +36,9 @@ use crate::batch_renewing::base_of;
 use crate::closed_laws::partitions_are_closed;
 use crate::concluding::conclude;
 use crate::earlier::{Base, Earlier};
+use crate::reasons::{Reason, reasons_of};
 use crate::{Compiled, EditedUnit, Planned, UnitCache, UnitGraph, check_library, plan, renewed};
-use al_base::{NoMemory, UnitKey};
+use al_base::{FileKey, NoMemory, UnitKey};
 use al_engine_refresh::{KeptEntries, has_sound};
 use al_query::Answers;
 use al_query_outcome::UnitCheck;
@@ -51,6 +53,8 @@ pub struct Rebuilt {
     pub compiled: Compiled,
     /// The units that were checked, by unit and kind.
     pub checked: Seq<UnitKey>,
+    /// Why each of them was checked.
+    pub reasons: Seq<Reason>,
     /// How many stored answers were compared with those of now, to 2^64-1.
     pub compared: usize,
     /// The number of units whose code was written into the image of the build before.
@@ -64,6 +68,7 @@ impl Drop for Rebuilt {
         let Rebuilt {
             compiled: _,
             checked: _,
+            reasons: _,
             compared: _,
             patched: _,
             earlier: _,
@@ -79,6 +84,7 @@ impl Rebuilt {
         Rebuilt {
             compiled: Compiled::Faulty(Vec::new(alloc)),
             checked: Seq::empty(alloc),
+            reasons: Seq::empty(alloc),
             compared: 0,
             patched: 0,
             earlier: None,
@@ -108,12 +114,13 @@ pub struct Standing<'a> {
     pub main: Option<&'a [u8]>,
 }
 
-/// A build that is done except for the image: what is to be linked, from which result it goes on, the units that were checked, by unit and kind, and
-/// how many stored answers were compared.
+/// A build that is done except for the image: what is to be linked, from which result it goes on, the units that were checked, by unit and kind, why
+/// each of them was checked, and how many stored answers were compared.
 pub struct PreparedBuild {
     pub planned: Planned,
     pub base: Option<Base>,
     pub checked: Vec<UnitKey>,
+    pub reasons: Vec<Reason>,
     pub compared: usize,
 }
 
@@ -123,6 +130,7 @@ impl Drop for PreparedBuild {
             planned: _,
             base: _,
             checked: _,
+            reasons: _,
             compared: _,
         } = self;
     }
@@ -201,8 +209,35 @@ fn renewed_plan(
     renewed(alloc, sources, entries, main, before, &base.unit)
 }
 
+/// The unit that alone has another entry than before, if it is known that there were no errors but in it.
+fn faulty_alone(was_clean: bool, unit: Option<&UnitKey>) -> Option<&UnitKey>
+    ensures { IfSome result (λ u. IsTrue was_clean × MatchOption unit.entry ⊥ (λ v. u.now ≡ v.now)) }
+{
+    if was_clean { unit } else { None }
+}
+
+/// The file of a unit, if there is a unit.
+fn file_of(sources: &Sources, unit: Option<&UnitKey>) -> Option<FileKey>
+    ensures { IfSome result (λ file. MatchOption unit.entry ⊥ (λ u. file ≡ file_name_of (key_of u.now))) }
+{
+    match unit {
+        Some(unit) => sources.file_of_unit(unit),
+        None => None,
+    }
+}
+
+/// The name of a file, if there is one.
+fn name_of(file: &Option<FileKey>) -> Option<&[u8]>
+    ensures { IfSome result (λ name. MatchOption file.now ⊥ (λ file. file ≡ name.now)) }
+{
+    match file {
+        Some(file) => Some(file.as_slice()),
+        None => None,
+    }
+}
+
 /// The result of compiling the files for a main unit, up to the image, as `plan` gives it, over the result from which a build goes on. If it is known
-/// that there are no errors, they aren't looked for.
+/// that there are no errors, they aren't looked for; if there can be none but in one unit, only in its file.
 fn plan_over(
     alloc: Global,
     sources: &Sources,
@@ -211,6 +246,7 @@ fn plan_over(
     main: &[u8],
     known: Option<&[UnitKey]>,
     is_clean: bool,
+    faulty: Option<&UnitKey>,
     base: &Option<Base>,
     gave: &Rebuilt,
 ) -> Result<Planned, NoMemory>
@@ -218,6 +254,7 @@ fn plan_over(
     requires coded { AreCoded (now_at entries.now) }
     requires known { IfSome known (λ order. IsElaboration sources.now main.now (map key_of order.now)) }
     requires clean { IsTrue is_clean → findings_of sources.now (results_of (now_at entries.now)) ≡ [] }
+    requires faulty { IfSome faulty (λ u. AreToldAlone sources.now (results_of (now_at entries.now)) (file_name_of (key_of u.now))) }
     requires base { IfSome base.now (IsBase sources.now (results_of (now_at entries.now)) gave.now) }
     ensures { IfOk result (IsPlanned sources.now (results_of (now_at entries.now)) main.now (over gave.now base.now)) }
 {
@@ -227,12 +264,17 @@ fn plan_over(
             return Ok(planned);
         }
     }
-    let planned = plan(alloc, sources, entries, faults, main, known, is_clean)?;
+    let file = file_of(sources, faulty);
+    let alone = name_of(&file);
+    let planned = plan(
+        alloc, sources, entries, faults, main, known, is_clean, alone,
+    )?;
     Ok(planned)
 }
 
 /// The result of compiling the files for a main unit, up to the image, and the result from which the build goes on. If only some units have other
-/// entries than before, and no errors, then errors aren't looked for; if it is one unit, an earlier result is used again.
+/// entries than before, and no errors, then errors aren't looked for; if it is one unit, an earlier result is used again, and errors are looked for in
+/// its file alone.
 fn plan_now(
     alloc: Global,
     sources: &Sources,
@@ -247,7 +289,7 @@ fn plan_now(
     requires faults { map file_faults_model faults.now ≡ map (λ file. (file, file_faults sources.now file)) (keys_of sources.now) }
     requires coded { AreCoded (now_at entries.now) }
     requires known { IfSome known (λ order. IsElaboration sources.now main.now (map key_of order.now)) }
-    requires clean { IsTrue standing.is_clean → MatchOption edits ⊥ (λ e. (u : UnitKey) → has_unit (units_of e.now) u ≡ true → is_sound (results_of (now_at entries.now) u) ≡ true) → findings_of sources.now (results_of (now_at entries.now)) ≡ [] }
+    requires clean { IsTrue standing.is_clean → IfSome edits (λ e. IsCleanBut sources.now (settled_at entries.now) (units_of e.now)) }
     requires others { IfSome edits (λ e. (w : UnitKey) → has_unit (units_of e.now) w ≡ false → now_at entries.now w ≡ settled_at entries.now w) }
     requires kept { IfSome standing.main (λ last. IfSome edits (λ _. KeepsPartition sources.now (results_of (settled_at entries.now)) last.now gave.now.compiled × KeepsEarlier sources.now (results_of (settled_at entries.now)) gave.now.earlier)) }
     ensures planned { IfOk result (λ p. IsPlanned sources.now (results_of (now_at entries.now)) main.now (over gave.now p.1) p.0) }
@@ -256,8 +298,9 @@ fn plan_now(
     let clean = is_clean(entries, standing.is_clean, edits);
     let unit = alone_in(edits);
     let base = base_of(alloc, sources, entries, standing.main, unit, gave)?;
+    let faulty = faulty_alone(standing.is_clean, unit);
     let planned = plan_over(
-        alloc, sources, entries, faults, main, known, clean, &base, gave,
+        alloc, sources, entries, faults, main, known, clean, faulty, &base, gave,
     )?;
     Ok((planned, base))
 }
@@ -294,7 +337,7 @@ pub fn prepare<C: UnitCheck, P: Answers>(
     requires edited { IfSome edited.now (λ edits. AreEdits C.meaning C.Text.header (P.table predefined.now) sources.now cache.old.store edits.items) }
     requires clean { IsTrue standing.is_clean → IfSome edited.now (λ edits. IsCleanBut sources.now (settled_at cache.old.store) (units_of edits.items)) }
     requires kept { IfSome standing.main (λ last. IfSome edited.now (λ _. KeepsPartition sources.now (results_of (settled_at cache.old.store)) last.now gave.now.compiled × KeepsEarlier sources.now (results_of (settled_at cache.old.store)) gave.now.earlier)) }
-    ensures prepared { IfOk result (λ p. IsPrepared C.meaning C.Text.header (P.table predefined.now) sources.now main.now gave.now cache.old.store p.base p.planned cache.new.store p.checked.items p.compared) }
+    ensures prepared { IfOk result (λ p. IsPrepared C.meaning C.Text.header (P.table predefined.now) sources.now main.now gave.now cache.old.store p.base p.planned cache.new.store p.checked.items p.reasons.items p.compared) }
     ensures counted { IfOk result (λ p. C.count cache.new.checker ≡ raised (C.count cache.old.checker) (length p.checked.items)) }
     ensures left { IsLeft cache.old.store cache.new.store }
 {
@@ -308,10 +351,12 @@ pub fn prepare<C: UnitCheck, P: Answers>(
         alloc, sources, entries, faults, main, known, edits, standing, gave,
     )?;
     let (planned, base) = found;
+    let reasons = reasons_of(alloc, predefined, sources, entries, checked.as_slice())?;
     Ok(PreparedBuild {
         planned,
         base,
         checked,
+        reasons,
         compared,
     })
 }
@@ -335,7 +380,7 @@ impl PreparedBuild {
         requires law { AllKeepLaw C.meaning C.Text.header (will_be cache.old.store) }
         requires closed { IsClosedPlan (over gave.old self.base) self.planned }
         requires behind { IfSome self.base (IsBehind gave.old) }
-        ensures rebuilt { OnOk result ((header : List ℕ → Header) (predefined : Query → AnswerKind) (lib : Library) (main : List ℕ) (old : Entries) → IsLeft old cache.old.store → IsPrepared C.meaning header predefined lib main gave.old old self.base self.planned cache.old.store self.checked.items self.compared → (is : IsRebuilt C.meaning header predefined lib main (settled_at old) (settled_at cache.new.store) gave.new) × IsKept predefined lib old cache.new.store is.made gave.new) }
+        ensures rebuilt { OnOk result ((header : List ℕ → Header) (predefined : Query → AnswerKind) (lib : Library) (main : List ℕ) (old : Entries) → IsLeft old cache.old.store → IsPrepared C.meaning header predefined lib main gave.old old self.base self.planned cache.old.store self.checked.items self.reasons.items self.compared → (is : IsRebuilt C.meaning header predefined lib main (settled_at old) (settled_at cache.new.store) gave.new) × IsKept predefined lib old cache.new.store is.made gave.new) }
         ensures patched { OnOk result (IsPatched (linked_in gave.old.compiled) (linked_in gave.new.compiled) gave.new.patched) }
         ensures checked { OnOk result (gave.new.checked ≡ self.checked.items) }
         ensures checker { cache.new.checker ≡ cache.old.checker }
@@ -345,11 +390,13 @@ impl PreparedBuild {
             planned,
             base,
             checked,
+            reasons,
             compared,
         } = self;
         let patched = conclude(alloc, planned, base, gave)?;
         gave.patched = patched;
         gave.checked = Seq::new(checked);
+        gave.reasons = Seq::new(reasons);
         gave.compared = compared;
         cache.settle();
         Ok(())

@@ -1,6 +1,6 @@
 -- The diagnostics that a build gives for the files of a library.
-use Rattle.std.specs.Prelude.{ℕ, List, [], ◌∷◌, map, Option, Some, None}
-use Rattle.std.specs.List.{flat_map}
+use Rattle.std.specs.Prelude.{ℕ, ◌≡◌, List, [], ◌∷◌, map, Option, Some, None}
+use Rattle.std.specs.List.{Contains, flat_map}
 use Rattle.std.specs.Map.{keys_of}
 use Rattle.std.specs.Option.{option_map_or}
 use Rattle.al_base.specs.Batch.{Finding}
@@ -34,9 +34,17 @@ contents_findings f file (Unread place code) = finding_at file (place.line, plac
 abbrev pub told_of : Library → (UnitKey → Option Outcome) → List ℕ → List Finding → List Finding
 told_of lib f file faults = or_else faults (option_map_or (λ source. contents_findings f file source.contents) (source_at lib file) [])
 
+-- those of a file with its errors among the other units
+abbrev pub told_in : Library → (UnitKey → Option Outcome) → List ℕ × List Finding → List Finding
+told_in lib f file = told_of lib f file.0 file.1
+
 abbrev pub file_findings : Library → (UnitKey → Option Outcome) → List ℕ → List Finding
 file_findings lib f file = told_of lib f file (file_faults lib file)
 
 -- all diagnostics of the files of a library, whose units have these outcomes: by file, place and number
 unfoldable pub findings_of : Library → (UnitKey → Option Outcome) → List Finding
 findings_of lib f = flat_map (file_findings lib f) (keys_of lib)
+
+-- no file but this one has any
+abbrev pub AreToldAlone : Library → (UnitKey → Option Outcome) → List ℕ → Type 0
+AreToldAlone lib f one = (file : List ℕ) → Contains (keys_of lib) file → (file ≡ one → ⊥) → file_findings lib f file ≡ []

@@ -1,5 +1,5 @@
 // The diagnostics of a library's files.
-ghost use Rattle.std.specs.Prelude.{◌≡◌, ◌++◌, map, Some, IfOk, OnOk};
+ghost use Rattle.std.specs.Prelude.{◌≡◌, ◌++◌, [], map, Some, IfOk, IfSome, IsTrue, MatchOption, OnOk};
 ghost use Rattle.std.specs.Map.{keys_of};
 ghost use Rattle.std.specs.Option.{option_copied, option_map};
 ghost use Rattle.al_base.specs.Batch.{finding_of};
@@ -12,7 +12,7 @@ ghost use Rattle.al_query_outcome.specs.Equations.{unit_named};
 ghost use Rattle.al_query_outcome.specs.Results.{checked_model};
 ghost use Rattle.al_engine_refresh.specs.Stored.{outcome_of};
 ghost use Rattle.al_engine_refresh.specs.Builds.{results_of};
-ghost use Rattle.al_engine_refresh.specs.Found.{contents_findings, findings_of, outcome_findings, told_of};
+ghost use Rattle.al_engine_refresh.specs.Found.{AreToldAlone, contents_findings, findings_of, outcome_findings, told_in, told_of};
 
 use crate::finding::{add, add_all, add_ascending};
 use crate::{Entry, KeptEntries};
@@ -101,8 +101,37 @@ fn add_file(
     }
 }
 
+/// Whether this is another file than the one in question, if it is known which one that is.
+fn is_other(alone: Option<&[u8]>, file: &[u8]) -> bool
+    ensures { IsTrue result → MatchOption alone.entry ⊥ (λ one. file.now ≡ one.now → ⊥) }
+{
+    match alone {
+        Some(one) => one != file,
+        None => false,
+    }
+}
+
+/// Adds the diagnostics of a file. If `alone` is known, a file of another name has none, and isn't looked at.
+fn add_told(
+    alloc: Global,
+    sources: &Sources,
+    entries: &KeptEntries,
+    alone: Option<&[u8]>,
+    file: &FileFaults,
+    found: &mut Vec<Diagnostic>,
+) -> Result<(), NoMemory>
+    requires { IfSome alone (λ one. (file.now.file ≡ one.now → ⊥) → told_in sources.now (results_of (now_at entries.now)) (file_faults_model file.now) ≡ []) }
+    ensures { OnOk result (map finding_of found.new.items ≡ map finding_of found.old.items ++ told_in sources.now (results_of (now_at entries.now)) (file_faults_model file.now)) }
+{
+    let name = file.file.as_slice();
+    if is_other(alone, name) {
+        return Ok(());
+    }
+    add_file(alloc, sources, entries, name, file.faults.as_slice(), found)
+}
+
 /// All diagnostics of a library's files, by file, place and number. For each file these are the errors of its unit among the other units, or else
-/// those of its source, or else those of the unit's outcome.
+/// those of its source, or else those of the unit's outcome. If it is known that no file but `alone` has any, no other one is looked at.
 ///
 /// # Errors
 /// `NoMemory` if the allocator refuses memory.
@@ -111,21 +140,15 @@ pub fn findings_of(
     sources: &Sources,
     entries: &KeptEntries,
     faults: &[FileFaults],
+    alone: Option<&[u8]>,
 ) -> Result<Vec<Diagnostic>, NoMemory>
-    requires { map file_faults_model faults.now ≡ map (λ file. (file, file_faults sources.now file)) (keys_of sources.now) }
+    requires faults { map file_faults_model faults.now ≡ map (λ file. (file, file_faults sources.now file)) (keys_of sources.now) }
+    requires alone { IfSome alone (λ one. AreToldAlone sources.now (results_of (now_at entries.now)) one.now) }
     ensures { IfOk result (λ found. map finding_of found.items ≡ findings_of sources.now (results_of (now_at entries.now))) }
 {
     let mut found = Vec::new(alloc);
     for file in faults {
-        let name = file.file.as_slice();
-        add_file(
-            alloc,
-            sources,
-            entries,
-            name,
-            file.faults.as_slice(),
-            &mut found,
-        )?;
+        add_told(alloc, sources, entries, alone, file, &mut found)?;
     }
     Ok(found)
 }

@@ -111,5 +111,5 @@ orders_now-requires-clause-planned g c =
 pub returns-clause-prepared : goal.returns-clause-prepared
 returns-clause-prepared g c =
     let p = c.in_ok-prepared.prepared in
-    subst (λ (l : Library). IsPrepared g.C.UnitCheck.meaning g.C.Text.ReadText.header (g.P.Answers.table c.args.predefined.now) l c.args.main.now c.args.gave.now c.args.cache.now.store p.base p.planned c.prepare.new.cache.store p.checked.items p.compared)
+    subst (λ (l : Library). IsPrepared g.C.UnitCheck.meaning g.C.Text.ReadText.header (g.P.Answers.table c.args.predefined.now) l c.args.main.now c.args.gave.now c.args.cache.now.store p.base p.planned c.prepare.new.cache.store p.checked.items p.reasons.items p.compared)
     c.sources-sources.ensures c.in_ok-prepared.ensures.prepared

@@ -4,7 +4,7 @@ use Rattle.al_base.specs.Batch.{finding_of}
 use Rattle.al_unit_faults.specs.FilesSeen.{file_faults_model}
 use Rattle.al_query_store.specs.Keyed.{now_at}
 use Rattle.al_engine_refresh.specs.Builds.{results_of}
-use Rattle.al_engine_refresh.proofs.FoundLemmas.{told_in}
+use Rattle.al_engine_refresh.specs.Found.{told_in}
 use Rattle.al_engine_refresh.proofs.files.findings_of.Given as goal
 
 abbrev pub invariant-loop-file : goal.invariant-loop-file

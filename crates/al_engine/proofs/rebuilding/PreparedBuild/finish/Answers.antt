@@ -2,9 +2,13 @@ use Rattle.std.proofs.Common.{List, ap, sym, subst, ◌∙◌}
 use Rattle.al_base.specs.declared.unit_key.UnitKey.{UnitKey}
 use Rattle.al_query_store.specs.Keyed.{State, entry_of, now_at, settled_at, settled_state, state}
 use Rattle.al_engine_refresh.specs.Stored.{Stored}
-use Rattle.al_engine_refresh.specs.Builds.{results_of}
+use Rattle.al_engine_refresh.specs.Builds.{present, results_of}
 use Rattle.al_engine.specs.Rechecks.{IsRechecked, setting_of}
 use Rattle.al_engine.proofs.ReadyLemmas.{entry-held, ready-now, reached-now}
+use Rattle.std.specs.Prelude.{Option}
+use Rattle.al_engine.specs.Reasons.{AreReasons}
+use Rattle.al_engine.specs.declared.reasons.Reason.{Reason}
+use Rattle.al_engine.proofs.Left.{settled-left}
 use Rattle.al_engine.specs.Rebuilds.{IsWithin}
 use Rattle.al_engine.proofs.WithinLemmas.{within}
 use Rattle.al_engine.proofs.rebuilding.PreparedBuild.finish.Goals as goal
@@ -28,5 +32,9 @@ returns-clause-rebuilt g c = λ header predefined lib main old left is.
         reached = reached-now meaning header predefined lib old mid new units c.args.self.compared now ended;
         ready = ready-now meaning header predefined lib old mid new units c.args.self.compared now ended;
         compared = subst (λ (us : List UnitKey). IsWithin lib us old new c.args.self.compared) (sym c.new.ensures) (within lib units old mid new left ended now.leaving now.made c.args.self.compared now.compared);
+        reasons =
+            subst (λ (us : List UnitKey). AreReasons (present predefined (results_of (now_at mid))) lib (settled_at old) us c.new-2.result) (sym c.new.ensures)
+            (subst (λ (rs : List Reason). AreReasons (present predefined (results_of (now_at mid))) lib (settled_at old) units rs) (sym c.new-2.ensures)
+            (subst (λ (at : UnitKey → Option Stored). AreReasons (present predefined (results_of (now_at mid))) lib at units c.args.self.reasons.items) (λ i u. settled-left old mid left u i) is.are_reasons));
       },
     )
