@@ -14,6 +14,8 @@ pub enum Part {
 /// The rules of [`RULES`], read.
 pub struct Grammar {
     alloc: Global,
+    /// The names of the rules.
+    names: Vec<&'static str>,
     lexemes: Vec<&'static str>,
     /// Of each rule its alternatives.
     rules: Vec<Vec<Vec<Part>>>,
@@ -27,24 +29,13 @@ impl Drop for Grammar {
     fn drop(self) {
         let Grammar {
             alloc: _,
+            names: _,
             lexemes: _,
             rules: _,
             firsts: _,
             empties: _,
         } = self;
     }
-}
-
-// The number of the rule of that name.
-fn rule_named(word: &str) -> Option<usize> {
-    for (number, line) in RULES.split('\n').enumerate() {
-        if let Some((name, _parts)) = line.split_once(" = ") {
-            if name == word {
-                return Some(number);
-            }
-        }
-    }
-    None
 }
 
 impl Grammar {
@@ -56,20 +47,42 @@ impl Grammar {
     pub fn new(alloc: Global) -> Result<Grammar, AllocError> {
         let mut grammar = Grammar {
             alloc,
+            names: Vec::new(alloc),
             lexemes: Vec::new(alloc),
             rules: Vec::new(alloc),
             firsts: Vec::new(alloc),
             empties: Vec::new(alloc),
         };
-        for line in RULES.split('\n') {
-            if let Some((_name, parts)) = line.split_once(" = ") {
-                let alternatives = grammar.alternatives_of(parts)?;
-                grammar.rules.push(alternatives)?;
-            }
-        }
+        grammar.read()?;
         grammar.start_firsts()?;
         grammar.find_firsts();
         Ok(grammar)
+    }
+
+    // Reads the rules, their names first.
+    fn read(&mut self) -> Result<(), AllocError> {
+        for line in RULES.split('\n') {
+            if let Some((name, _parts)) = line.split_once(" = ") {
+                self.names.push(name)?;
+            }
+        }
+        for line in RULES.split('\n') {
+            if let Some((_name, parts)) = line.split_once(" = ") {
+                let alternatives = self.alternatives_of(parts)?;
+                self.rules.push(alternatives)?;
+            }
+        }
+        Ok(())
+    }
+
+    // The number of the rule of that name.
+    fn rule_named(&self, word: &str) -> Option<usize> {
+        for (number, name) in self.names.iter().enumerate() {
+            if *name == word {
+                return Some(number);
+            }
+        }
+        None
     }
 
     fn alternatives_of(&mut self, parts: &'static str) -> Result<Vec<Vec<Part>>, AllocError> {
@@ -88,7 +101,7 @@ impl Grammar {
     }
 
     fn part_of(&mut self, word: &'static str) -> Result<Part, AllocError> {
-        if let Some(number) = rule_named(word) {
+        if let Some(number) = self.rule_named(word) {
             return Ok(Part::Rule(number));
         }
         if let Some(number) = self.lexeme_of(word.as_bytes()) {
@@ -122,11 +135,12 @@ impl Grammar {
         Ok(())
     }
 
-    // Finds what each rule begins with. What is found in one round is used in the next, and rules nest no deeper than they are many.
+    // Finds what each rule begins with: the last rule first, since most name later ones. What is found in one round is used in the next, and rules
+    // nest no deeper than they are many.
     fn find_firsts(&mut self) {
         for _round in 0..self.rules.len() {
             let mut has_changed = false;
-            for rule in 0..self.rules.len() {
+            for rule in (0..self.rules.len()).rev() {
                 for alternative in 0..self.count_of(rule) {
                     has_changed = self.extend_first(rule, alternative) || has_changed;
                 }

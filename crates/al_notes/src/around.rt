@@ -1,7 +1,7 @@
 // The files whose declarations can be seen in a file.
 use crate::context::withs_of;
 use crate::file_names::{body_file, declaration_file, is_body_file, parent_of, unit_of_file};
-use crate::predefined::predefined_text;
+use crate::predefined::is_predefined;
 use crate::said::folded;
 use al_base::Files;
 use al_sketch::Sketch;
@@ -56,13 +56,18 @@ fn add_file(
     may_be_body: bool,
     names: &mut Vec<Vec<u8>>,
 ) -> Result<(), AllocError> {
-    let spec = declaration_file(alloc, unit)?;
-    if texts.get(spec.as_slice()).is_some() {
-        names.push(spec)?;
+    if has_declaration(alloc, texts, unit)? {
+        names.push(declaration_file(alloc, unit)?)?;
     } else if may_be_body {
         names.push(body_file(alloc, unit)?)?;
     }
     Ok(())
+}
+
+// Whether a unit's declaration is there.
+fn has_declaration(alloc: Global, texts: &Files, unit: &[u8]) -> Result<bool, AllocError> {
+    let file = declaration_file(alloc, unit)?;
+    Ok(texts.get(file.as_slice()).is_some())
 }
 
 // Adds the units that with clauses name.
@@ -72,9 +77,8 @@ fn add_withs(
     sketch: &Sketch,
     names: &mut Vec<Vec<u8>>,
 ) -> Result<(), AllocError> {
-    let withs = withs_of(alloc, sketch)?;
-    for (from, to) in withs.iter() {
-        add_unit(alloc, texts, sketch.words(*from, *to), names)?;
+    for unit in withs_of(alloc, sketch)?.iter() {
+        add_unit(alloc, texts, unit, names)?;
     }
     Ok(())
 }
@@ -86,7 +90,7 @@ fn add_unit(
     names: &mut Vec<Vec<u8>>,
 ) -> Result<(), AllocError> {
     let lower = folded(alloc, unit)?;
-    if predefined_text(lower.as_slice()).is_some() {
+    if is_predefined(lower.as_slice()) {
         names.push(lower)?;
         return Ok(());
     }

@@ -1,125 +1,134 @@
 // Calls: the candidates, and which parameter doesn't fit.
 use crate::names::head_of;
-use crate::note;
 use crate::said::Said;
-use crate::types::{Kind, mark_type, type_of_expression};
+use crate::types::{Kind, depth_behind, mark_type, type_of_expression};
 use crate::view::{Found, View};
+use crate::words::is_same;
+use crate::{add, note};
 use al_sketch::{DeclaredKind, Sketch};
-use std::alloc::AllocError;
 
 /// Says of the calls from a lexeme to the one before that why they don't fit.
-///
-/// # Errors
-///
-/// `AllocError` if memory runs out.
-pub fn check_calls(
-    view: &View<'_>,
-    from: usize,
-    to: usize,
-    said: &mut Said,
-) -> Result<(), AllocError> {
+pub fn check_calls(view: &View<'_>, from: usize, to: usize, said: &mut Said) {
     for index in from..to {
         let is_selector = view.sketch.is(index.saturating_sub(1), b".");
         let is_attribute = view.sketch.is(index.saturating_sub(1), b"'");
         if view.sketch.is_identifier(index) && !is_selector && !is_attribute {
-            check_call(view, index, said)?;
+            check_call(view, index, said);
         }
-        if said.lines.len() >= 3 {
+        if said.count() >= 3 {
             break;
         }
     }
-    Ok(())
 }
 
-fn check_call(view: &View<'_>, index: usize, said: &mut Said) -> Result<(), AllocError> {
-    let (some, behind) = head_of(view, index)?;
-    let arguments = arguments_at(view, behind)?;
-    for found in some.iter() {
+fn check_call(view: &View<'_>, index: usize, said: &mut Said) {
+    let (meaning, behind) = head_of(view, index);
+    for found in view.declared {
         let is_subprogram = matches!(
             found.declared.kind,
             DeclaredKind::Procedure | DeclaredKind::Function | DeclaredKind::Entry
         );
-        if is_subprogram && said.lines.len() < 3 {
-            tell_candidate(view, found, arguments.as_slice(), said)?;
+        if is_subprogram && said.count() < 3 && meaning.has(view, found) {
+            tell_candidate(view, found, behind, said);
         }
     }
-    Ok(())
 }
 
-// The arguments in the parentheses that open at a lexeme.
-fn arguments_at(view: &View<'_>, open: usize) -> Result<Vec<(usize, usize)>, AllocError> {
-    let mut arguments = Vec::new(view.alloc);
-    if !view.sketch.is(open, b"(") {
-        return Ok(arguments);
+// The argument of a number, from 0, in the parentheses that open at a lexeme, if there is one: its first lexeme, and the one behind its last.
+fn argument_at(sketch: &Sketch, open: usize, number: usize) -> Option<(usize, usize)> {
+    if !sketch.is(open, b"(") {
+        return None;
     }
-    let end = view.sketch.closing(open);
+    let end = sketch.closing(open);
     let mut start = open.saturating_add(1);
+    let mut passed = 0usize;
     let mut depth = 0usize;
     for index in start..end {
-        if view.sketch.is(index, b"(") {
-            depth = depth.saturating_add(1);
-        } else if view.sketch.is(index, b")") {
-            depth = depth.saturating_sub(1);
-        } else if depth == 0 && view.sketch.is(index, b",") {
-            arguments.push((start, index))?;
+        depth = depth_behind(sketch.word(index), depth);
+        if depth == 0 && sketch.is(index, b",") {
+            if passed == number {
+                return Some((start, index));
+            }
+            passed = passed.saturating_add(1);
             start = index.saturating_add(1);
         }
     }
-    arguments.push((start, end))?;
-    Ok(arguments)
+    if passed == number {
+        Some((start, end))
+    } else {
+        None
+    }
 }
 
-// The formals of a subprogram.
-fn formals_of<'a>(view: &View<'a>, found: &Found<'a>) -> Result<Vec<Found<'a>>, AllocError> {
-    let mut formals = Vec::new(view.alloc);
+/// How many arguments there are in the parentheses that open at a lexeme.
+pub fn argument_count(sketch: &Sketch, open: usize) -> usize {
+    let mut count = 0;
+    for number in 0..sketch.len() {
+        if argument_at(sketch, open, number).is_none() {
+            break;
+        }
+        count = number.saturating_add(1);
+    }
+    count
+}
+
+// Whether a declaration is a formal of a subprogram.
+fn is_formal_of(formal: &Found<'_>, found: &Found<'_>) -> bool {
     let (from, to) = found.declared.formals;
-    for declared in found.sketch.declared() {
-        if declared.kind == DeclaredKind::Formal && from <= declared.name && declared.name < to {
-            formals.push(Found {
-                declared: *declared,
-                ..*found
-            })?;
-        }
-    }
-    Ok(formals)
+    let name = formal.declared.name;
+    formal.declared.kind == DeclaredKind::Formal
+        && is_same(formal.file, found.file)
+        && from <= name
+        && name < to
 }
 
-// Says why a candidate doesn't fit these arguments, if that is known.
-fn tell_candidate<'a>(
+// The type of a formal and that of its argument, if these differ.
+fn misfit<'a>(
     view: &View<'a>,
-    found: &Found<'a>,
-    arguments: &[(usize, usize)],
-    said: &mut Said,
-) -> Result<(), AllocError> {
-    let formals = formals_of(view, found)?;
-    if formals.len() != arguments.len() {
-        return tell_count(found, formals.len(), arguments.len(), said);
+    formal: &'a Found<'a>,
+    argument: Option<(usize, usize)>,
+) -> Option<(&'a Found<'a>, Kind<'a>, Kind<'a>)> {
+    let (from, to) = argument?;
+    let wanted = formal_kind(view, formal);
+    let given = type_of_expression(view, from, to);
+    if given.differs(&wanted) {
+        Some((formal, wanted, given))
+    } else {
+        None
     }
-    for (formal, argument) in formals.iter().zip(arguments.iter()) {
-        let wanted = formal_kind(view, formal)?;
-        let given = type_of_expression(view, argument.0, argument.1)?;
-        if given.differs(&wanted) {
-            return tell_formal(found, formal, wanted, given, said);
-        }
-    }
-    Ok(())
 }
 
-fn formal_kind<'a>(view: &View<'a>, formal: &Found<'a>) -> Result<Kind<'a>, AllocError> {
+// Says why a candidate doesn't fit the arguments in the parentheses that open at a lexeme, if that is known.
+fn tell_candidate<'a>(view: &View<'a>, found: &Found<'a>, open: usize, said: &mut Said) {
+    let mut number = 0usize;
+    let mut unfit = None;
+    for formal in view.declared {
+        if !is_formal_of(formal, found) {
+            continue;
+        }
+        if unfit.is_none() {
+            unfit = misfit(view, formal, argument_at(view.sketch, open, number));
+        }
+        number = number.saturating_add(1);
+    }
+    let given = argument_count(view.sketch, open);
+    if given != number {
+        return tell_count(found, number, given, said);
+    }
+    if let Some((formal, wanted, given)) = unfit {
+        tell_formal(found, formal, wanted, given, said);
+    }
+}
+
+fn formal_kind<'a>(view: &View<'a>, formal: &Found<'a>) -> Kind<'a> {
     if formal.mark().eq_ignore_ascii_case(b"string") {
-        return Ok(Kind::Text);
+        return Kind::Text;
     }
     mark_type(view, formal)
 }
 
-fn tell_count(
-    found: &Found<'_>,
-    wanted: usize,
-    given: usize,
-    said: &mut Said,
-) -> Result<(), AllocError> {
-    said.add(found.name());
-    said.add(b" (");
+fn tell_count(found: &Found<'_>, wanted: usize, given: usize, said: &mut Said) {
+    add!(said; found.name(), b" (");
     found.add_spot(said);
     said.add(b"): parameters wanted: ");
     said.add_number(wanted);
@@ -134,64 +143,55 @@ fn tell_formal<'a>(
     wanted: Kind<'a>,
     given: Kind<'a>,
     said: &mut Said,
-) -> Result<(), AllocError> {
+) {
     let name = found.name();
-    said.add(b"parameter ");
-    said.add(formal.name());
-    said.add(b" of ");
-    said.add(name);
-    said.add(b" (");
+    add!(said; b"parameter ", formal.name(), b" of ", name, b" (");
     found.add_spot(said);
-    note!(said; b"): wanted ",
-        wanted.name(),
-        b", found ",
-        given.name())?;
+    note!(said; b"): wanted ", wanted.name(), b", found ", given.name());
     if let (Kind::Text, Kind::Of(of)) = (wanted, given) {
-        return note!(said; b"a value is put out by its image: ",
-            name,
-            b" (",
-            of.name(),
-            b"'Image (..))");
+        return note!(said; b"a value is put out by its image: ", name, b" (", of.name(), b"'Image (..))");
     }
-    Ok(())
 }
 
 /// E403: the candidates, with their places.
-///
-/// # Errors
-///
-/// `AllocError` if memory runs out.
-pub fn ambiguous(view: &View<'_>, said: &mut Said) -> Result<(), AllocError> {
+pub fn ambiguous(view: &View<'_>, said: &mut Said) {
     let end = view.sketch.declaration_end(view.at);
     for index in view.at..end {
         let is_selector = view.sketch.is(index.saturating_sub(1), b".");
-        if said.lines.is_empty() && view.sketch.is_identifier(index) && !is_selector {
-            tell_candidates(view, index, said)?;
+        if said.is_empty() && view.sketch.is_identifier(index) && !is_selector {
+            tell_candidates(view, index, said);
         }
     }
     note!(said; b"a qualified expression chooses one: T'(..)")
 }
 
 // Says what the name that begins at a lexeme may mean, if that is more than one declaration.
-fn tell_candidates(view: &View<'_>, index: usize, said: &mut Said) -> Result<(), AllocError> {
-    let (some, _behind) = head_of(view, index)?;
-    if some.len() > 1 {
-        for found in some.iter() {
-            tell_place(found, said)?;
+fn tell_candidates(view: &View<'_>, index: usize, said: &mut Said) {
+    let (meaning, _behind) = head_of(view, index);
+    let mut first = None;
+    for found in view.declared {
+        if !meaning.has(view, found) {
+            continue;
+        }
+        match first {
+            None => first = Some(found),
+            Some(one) => {
+                if said.is_empty() {
+                    tell_place(one, said);
+                }
+                tell_place(found, said);
+            }
         }
     }
-    Ok(())
 }
 
-fn tell_place(found: &Found<'_>, said: &mut Said) -> Result<(), AllocError> {
-    if said.lines.len() >= 4 {
-        return Ok(());
+fn tell_place(found: &Found<'_>, said: &mut Said) {
+    if said.count() >= 4 {
+        return;
     }
-    said.add(b"candidate ");
-    said.add(specification(found.sketch, found));
+    add!(said; b"candidate ", specification(found.sketch, found));
     if found.declared.kind == DeclaredKind::Literal {
-        said.add(b" of ");
-        said.add(found.mark());
+        add!(said; b" of ", found.mark());
     }
     said.add(b" (");
     found.add_spot(said);

@@ -1,33 +1,27 @@
 // E301 to E303: declarations and what completes them.
-use crate::file_names::{body_file, is_body_file};
-use crate::note;
+use crate::file_names::{is_body_file, stem};
 use crate::said::Said;
 use crate::view::{Found, View};
+use crate::words::is_same;
+use crate::{add, note};
 use al_sketch::{Declared, DeclaredKind, ScopeKind, Sketch};
-use std::alloc::AllocError;
 
 /// The place of the other declaration of the name.
-///
-/// # Errors
-///
-/// `AllocError` if memory runs out.
-pub fn duplicate(view: &View<'_>, said: &mut Said) -> Result<(), AllocError> {
-    let Some(own) = own_declaration(view.sketch, view.at) else {
-        return Ok(());
+pub fn duplicate(view: &View<'_>, said: &mut Said) {
+    let Some(own) = view.own(view.at) else {
+        return;
     };
-    for found in view.all_named(view.word())?.iter() {
-        if is_other(view, &own, found) {
-            said.add(found.name());
-            said.add(b" is declared ");
+    for found in view.declared {
+        if found.is_named(view.word()) && is_other(view, &own.declared, found) {
+            add!(said; found.name(), b" is declared ");
             found.add_place(said);
-            note!(said; b" too, as ", what_is(found.declared.kind))?;
+            note!(said; b" too, as ", what_is(found.declared.kind));
             return tell_overloading(found, said);
         }
     }
-    Ok(())
 }
 
-fn tell_overloading(found: &Found<'_>, said: &mut Said) -> Result<(), AllocError> {
+fn tell_overloading(found: &Found<'_>, said: &mut Said) {
     let is_subprogram = matches!(
         found.declared.kind,
         DeclaredKind::Procedure | DeclaredKind::Function
@@ -35,21 +29,11 @@ fn tell_overloading(found: &Found<'_>, said: &mut Said) -> Result<(), AllocError
     if is_subprogram {
         return note!(said; b"subprograms of one name need other parameter or result types (ARM 8.3)");
     }
-    Ok(())
-}
-
-fn own_declaration(sketch: &Sketch, at: usize) -> Option<Declared> {
-    for declared in sketch.declared() {
-        if declared.name == at {
-            return Some(*declared);
-        }
-    }
-    None
 }
 
 // Whether a declaration is in the region of this one, and another.
 fn is_other(view: &View<'_>, own: &Declared, found: &Found<'_>) -> bool {
-    if found.file == view.file {
+    if view.has(found) {
         return found.declared.name != own.name && found.declared.scope == own.scope;
     }
     let is_unit = view.sketch.is_outermost(own.scope) && own.scope > 0;
@@ -78,74 +62,38 @@ pub fn what_is(kind: DeclaredKind) -> &'static [u8] {
     }
 }
 
-/// Which declarations have no body.
-///
-/// # Errors
-///
-/// `AllocError` if memory runs out.
-pub fn missing_completion(view: &View<'_>, said: &mut Said) -> Result<(), AllocError> {
-    for file in view.around {
-        let file = file.as_slice();
-        let is_own = file == view.file;
-        if is_own || is_declaration_of(view, file)? {
-            say_missing(view, file, is_own, said)?;
-        }
-    }
-    Ok(())
-}
-
-// Says which declarations of a file have no body, three at most.
-fn say_missing(
-    view: &View<'_>,
-    file: &[u8],
-    is_own: bool,
-    said: &mut Said,
-) -> Result<(), AllocError> {
-    let Some(sketch) = view.other(file) else {
-        return Ok(());
-    };
-    let scope = scope_of_end(view);
-    for declared in sketch.declared() {
-        let is_here = if is_own {
+/// Which declarations have no body, three at most.
+pub fn missing_completion(view: &View<'_>, said: &mut Said) {
+    let scope = view.sketch.scope_at(view.at);
+    for found in view.declared {
+        let declared = &found.declared;
+        let is_here = if view.has(found) {
             declared.scope == scope
         } else {
-            declared.scope > 0 && sketch.is_outermost(declared.scope)
+            is_declaration_of(found.file, view.file)
+                && declared.scope > 0
+                && found.sketch.is_outermost(declared.scope)
         };
-        if is_here && said.lines.len() < 3 && lacks_body(view, sketch, declared, scope) {
-            let found = Found {
-                file,
-                sketch,
-                declared: *declared,
-            };
-            say_without_body(&found, said)?;
+        if is_here && said.count() < 3 && lacks_body(view, found.sketch, declared, scope) {
+            say_without_body(found, said);
         }
     }
-    Ok(())
+}
+
+// Whether a file is the declaration whose body the other is.
+fn is_declaration_of(file: &[u8], body: &[u8]) -> bool {
+    !is_body_file(file) && is_body_file(body) && is_same(stem(file), stem(body))
 }
 
 fn lacks_body(view: &View<'_>, sketch: &Sketch, declared: &Declared, scope: usize) -> bool {
     needs_body(sketch, declared) && !has_body(view, sketch, declared, scope)
 }
 
-fn say_without_body(found: &Found<'_>, said: &mut Said) -> Result<(), AllocError> {
-    said.add(found.name());
-    said.add(b" has no body: it is ");
-    said.add(what_is(found.declared.kind));
-    said.add(b", declared ");
+fn say_without_body(found: &Found<'_>, said: &mut Said) {
+    add!(said; found.name(), b" has no body: it is ");
+    add!(said; what_is(found.declared.kind), b", declared ");
     found.add_place(said);
     said.end()
-}
-
-// The scope whose part ends at the place.
-fn scope_of_end(view: &View<'_>) -> usize {
-    view.sketch.scope_at(view.at)
-}
-
-// Whether a file is the declaration whose body the source is.
-fn is_declaration_of(view: &View<'_>, file: &[u8]) -> Result<bool, AllocError> {
-    let unit = view.unit_of(file)?;
-    let body = body_file(view.alloc, unit.as_slice())?;
-    Ok(!is_body_file(file) && body.as_slice() == view.file)
 }
 
 fn needs_body(sketch: &Sketch, declared: &Declared) -> bool {
@@ -180,54 +128,38 @@ fn has_body(view: &View<'_>, of: &Sketch, declared: &Declared, scope: usize) -> 
 }
 
 /// The place of the declaration, and what differs.
-///
-/// # Errors
-///
-/// `AllocError` if memory runs out.
-pub fn not_conformant(view: &View<'_>, said: &mut Said) -> Result<(), AllocError> {
-    let Some(own) = own_declaration(view.sketch, view.at) else {
-        return Ok(());
+pub fn not_conformant(view: &View<'_>, said: &mut Said) {
+    let Some(own) = view.own(view.at) else {
+        return;
     };
-    let own = Found {
-        file: view.file,
-        sketch: view.sketch,
-        declared: own,
-    };
-    for found in view.all_named(view.word())?.iter() {
-        let is_same = found.file == view.file && found.declared.name == own.declared.name;
-        if is_same || (found.file == view.file && found.declared.is_body) {
+    for found in view.declared {
+        let is_same = found.declared.name == own.declared.name || found.declared.is_body;
+        if !found.is_named(view.word()) || (view.has(found) && is_same) {
             continue;
         }
-        said.add(found.name());
-        said.add(b" is declared ");
+        add!(said; found.name(), b" is declared ");
         found.add_place(said);
-        note!(said; b", as ", what_is(found.declared.kind))?;
-        return differs(&own, found, said);
+        note!(said; b", as ", what_is(found.declared.kind));
+        return differs(own, found, said);
     }
-    Ok(())
 }
 
 // What differs between two specifications.
-fn differs(own: &Found<'_>, other: &Found<'_>, said: &mut Said) -> Result<(), AllocError> {
+fn differs(own: &Found<'_>, other: &Found<'_>, said: &mut Said) {
     let there = formals_text(other);
     let here = formals_text(own);
     if own.declared.kind != other.declared.kind {
         return note!(said; b"here it is ", what_is(own.declared.kind));
     }
     if !own.mark().eq_ignore_ascii_case(other.mark()) {
-        return note!(said; b"there the result is ",
-            other.mark(),
-            b", here ",
-            own.mark());
+        return note!(said; b"there the result is ", other.mark(), b", here ", own.mark());
     }
     let (first, last) = differing(own, other);
     if first < own.declared.formals.1 || last < other.declared.formals.1 {
-        note!(said; b"there it is ", there, b"; here ", here)?;
-        said.add(b"they differ at ");
-        said.add(own.sketch.word(first));
-        said.add(b", on line ");
+        note!(said; b"there it is ", there, b"; here ", here);
+        add!(said; b"they differ at ", own.sketch.word(first), b", on line ");
         said.add_number(own.sketch.line(first) as usize);
-        said.end()?;
+        said.end();
     }
     note!(said; b"names, modes and subtypes are repeated as they are (ARM 6.3.1)")
 }
@@ -259,11 +191,16 @@ fn differing(own: &Found<'_>, other: &Found<'_>) -> (usize, usize) {
     (here, there)
 }
 
+/// The declaration of the innermost unit, operation or type round the place.
+pub fn body_round<'a>(view: &View<'a>) -> Option<&'a Found<'a>> {
+    view.own(named_scope(view)?)
+}
+
 /// The scope that ends at the place, with its name.
 pub fn named_scope(view: &View<'_>) -> Option<usize> {
     let mut number = view.sketch.scope_at(view.at);
     for _round in 0..view.sketch.scopes().len() {
-        let scope = view.sketch.scope(number)?;
+        let scope = view.sketch.scopes().get(number)?;
         if !matches!(scope.kind, ScopeKind::Block | ScopeKind::Text) {
             return Some(scope.name);
         }

@@ -1,13 +1,13 @@
-// What context clauses name.
+// What context clauses and use clauses name.
 use al_sketch::Sketch;
 use std::alloc::{AllocError, Global};
 
-/// The names in a source's with clauses: the first lexeme of each, and the one behind its last.
+/// The names in a source's with clauses.
 ///
 /// # Errors
 ///
 /// `AllocError` if memory runs out.
-pub fn withs_of(alloc: Global, sketch: &Sketch) -> Result<Vec<(usize, usize)>, AllocError> {
+pub fn withs_of<'a>(alloc: Global, sketch: &'a Sketch) -> Result<Vec<&'a [u8]>, AllocError> {
     let mut names = Vec::new(alloc);
     let end = match sketch.scopes().get(1) {
         Some(unit) => unit.start,
@@ -15,18 +15,36 @@ pub fn withs_of(alloc: Global, sketch: &Sketch) -> Result<Vec<(usize, usize)>, A
     };
     for index in 0..end.min(sketch.len()) {
         let is_first = index == 0 || sketch.is(index.saturating_sub(1), b";");
-        if sketch.is(index, b"with") && is_first {
+        if is_first && sketch.is(index, b"with") {
             add_names(sketch, index, &mut names)?;
         }
     }
     Ok(names)
 }
 
+/// Adds the packages that use clauses before a lexeme name.
+///
+/// # Errors
+///
+/// `AllocError` if memory runs out.
+pub fn add_used<'a>(
+    sketch: &'a Sketch,
+    end: usize,
+    names: &mut Vec<&'a [u8]>,
+) -> Result<(), AllocError> {
+    for index in 0..end.min(sketch.len()) {
+        if sketch.is(index, b"use") {
+            add_names(sketch, index, names)?;
+        }
+    }
+    Ok(())
+}
+
 // Adds the names behind a word, up to the semicolon.
-fn add_names(
-    sketch: &Sketch,
+fn add_names<'a>(
+    sketch: &'a Sketch,
     word: usize,
-    names: &mut Vec<(usize, usize)>,
+    names: &mut Vec<&'a [u8]>,
 ) -> Result<(), AllocError> {
     let mut at = word.saturating_add(1);
     for _name in 0..sketch.len() {
@@ -34,31 +52,11 @@ fn add_names(
             break;
         }
         let end = sketch.name_end(at);
-        names.push((at, end))?;
+        names.push(sketch.words(at, end))?;
         if !sketch.is(end, b",") {
             break;
         }
         at = end.saturating_add(1);
     }
     Ok(())
-}
-
-/// Whether a use clause before a lexeme names a package.
-///
-/// # Errors
-///
-/// `AllocError` if memory runs out.
-pub fn is_used(alloc: Global, sketch: &Sketch, at: usize, unit: &[u8]) -> Result<bool, AllocError> {
-    let mut names = Vec::new(alloc);
-    for index in 0..at.min(sketch.len()) {
-        if sketch.is(index, b"use") {
-            add_names(sketch, index, &mut names)?;
-        }
-    }
-    for (from, to) in names.iter() {
-        if sketch.words(*from, *to).eq_ignore_ascii_case(unit) {
-            return Ok(true);
-        }
-    }
-    Ok(false)
 }

@@ -1,9 +1,10 @@
 // E203: how a unit depends on itself.
 use crate::context::withs_of;
 use crate::file_names::{declaration_file, parent_of, unit_of_file};
-use crate::note;
 use crate::said::Said;
 use crate::view::View;
+use crate::words::is_same;
+use crate::{add, note};
 use al_sketch::Sketch;
 use std::alloc::AllocError;
 
@@ -23,30 +24,52 @@ impl Drop for Step {
 }
 
 /// Tells the units of a cycle one by one, as far as declarations make it.
-///
-/// # Errors
-///
-/// `AllocError` if memory runs out.
-pub fn cycle(view: &View<'_>, said: &mut Said) -> Result<(), AllocError> {
+pub fn cycle(view: &View<'_>, said: &mut Said) {
     let mut steps: Vec<Step> = Vec::new(view.alloc);
-    let first = Vec::from_slice(view.alloc, view.file)?;
-    steps.push(Step {
-        file: first,
-        from: 0,
-    })?;
+    if let Some(last) = said.made_some(find_cycle(view, &mut steps)) {
+        tell_cycle(view, steps.as_slice(), last, said);
+    }
+}
+
+fn tell_cycle(view: &View<'_>, steps: &[Step], last: usize, said: &mut Said) {
+    said.add(view.file);
+    for many in (0..steps.len()).rev() {
+        if let Some(file) = file_before(steps, last, many) {
+            add!(said; b" depends on ", file, b", which");
+        }
+    }
+    note!(said; b" depends on ", view.file)
+}
+
+// The file of the step that many before one, if that isn't the first.
+fn file_before(steps: &[Step], last: usize, many: usize) -> Option<&[u8]> {
+    let mut at = last;
+    for _step in 0..many {
+        at = steps.get(at)?.from;
+    }
+    if at == 0 {
+        return None;
+    }
+    Some(steps.get(at)?.file.as_slice())
+}
+
+// Goes through the units that the diagnostic's one depends on, the nearest first, up to one that depends on it.
+fn find_cycle(view: &View<'_>, steps: &mut Vec<Step>) -> Result<Option<usize>, AllocError> {
+    let file = Vec::from_slice(view.alloc, view.file)?;
+    steps.push(Step { file, from: 0 })?;
     for number in 0..MOST {
         let Some(step) = steps.get(number) else {
             break;
         };
         let named = named_by(view, step.file.as_slice())?;
         for file in named.iter() {
-            if file.as_slice() == view.file {
-                return tell(view, steps.as_slice(), number, said);
+            if is_same(file.as_slice(), view.file) {
+                return Ok(Some(number));
             }
         }
-        add(&mut steps, named, number)?;
+        add(steps, named, number)?;
     }
-    Ok(())
+    Ok(None)
 }
 
 fn add(steps: &mut Vec<Step>, named: Vec<Vec<u8>>, from: usize) -> Result<(), AllocError> {
@@ -60,7 +83,7 @@ fn add(steps: &mut Vec<Step>, named: Vec<Vec<u8>>, from: usize) -> Result<(), Al
 
 fn is_among(steps: &[Step], file: &[u8]) -> bool {
     for step in steps {
-        if step.file.as_slice() == file {
+        if is_same(step.file.as_slice(), file) {
             return true;
         }
     }
@@ -80,9 +103,8 @@ fn named_by(view: &View<'_>, file: &[u8]) -> Result<Vec<Vec<u8>>, AllocError> {
 // Adds the declarations that a source's context clause names.
 fn add_withs(view: &View<'_>, text: &[u8], named: &mut Vec<Vec<u8>>) -> Result<(), AllocError> {
     let sketch = Sketch::of(view.alloc, text)?;
-    let withs = withs_of(view.alloc, &sketch)?;
-    for (from, to) in withs.iter() {
-        add_declaration(view, sketch.words(*from, *to), named)?;
+    for unit in withs_of(view.alloc, &sketch)?.iter() {
+        add_declaration(view, unit, named)?;
     }
     Ok(())
 }
@@ -104,27 +126,4 @@ fn add_declaration(
     let file = declaration_file(view.alloc, unit)?;
     named.push(file)?;
     Ok(())
-}
-
-// Tells the way from the first step to this one, and back.
-fn tell(view: &View<'_>, steps: &[Step], last: usize, said: &mut Said) -> Result<(), AllocError> {
-    let mut way: Vec<&[u8]> = Vec::new(view.alloc);
-    let mut at = last;
-    for _step in 0..steps.len() {
-        let Some(step) = steps.get(at) else {
-            break;
-        };
-        if at == 0 {
-            break;
-        }
-        way.push(step.file.as_slice())?;
-        at = step.from;
-    }
-    said.add(view.file);
-    for file in way.iter().rev() {
-        said.add(b" depends on ");
-        said.add(file);
-        said.add(b", which");
-    }
-    note!(said; b" depends on ", view.file)
 }

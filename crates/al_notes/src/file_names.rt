@@ -1,4 +1,6 @@
 // Names of files and of units.
+use crate::near::plain;
+use crate::predefined::is_predefined;
 use crate::said::folded;
 use al_base::{Name, UnitKey, UnitKind, file_name_of};
 use std::alloc::{AllocError, Global};
@@ -49,6 +51,32 @@ pub fn stem(file: &[u8]) -> &[u8] {
     file.get(..file.len().saturating_sub(4)).unwrap_or(file)
 }
 
+/// Whether a file, or a predefined unit, is one of that unit: its declaration, its body.
+pub fn is_file_of(file: &[u8], unit: &[u8]) -> bool {
+    let name = if is_predefined(file) {
+        file
+    } else {
+        stem(file)
+    };
+    if name.len() != unit.len() {
+        return false;
+    }
+    for (one, other) in name.iter().zip(unit.iter()) {
+        if plain(*one) != plain(*other) {
+            return false;
+        }
+    }
+    true
+}
+
+/// Whether a file is of a file's unit, or of a unit above it.
+pub fn is_above(file: &[u8], of: &[u8]) -> bool {
+    match stem(of).strip_prefix(stem(file)) {
+        Some([] | [b'-' | b'~', ..]) => true,
+        _ => false,
+    }
+}
+
 /// Whether a file's name is that of a body or a subunit.
 pub fn is_body_file(file: &[u8]) -> bool {
     matches!(file.last(), Some(b'b'))
@@ -63,12 +91,4 @@ pub fn parent_of(unit: &[u8]) -> Option<&[u8]> {
         }
     }
     unit.get(..dot?)
-}
-
-/// The last identifier of a unit's name.
-pub fn last_of(unit: &[u8]) -> &[u8] {
-    match parent_of(unit) {
-        Some(parent) => unit.get(parent.len().saturating_add(1)..).unwrap_or(&[]),
-        None => unit,
-    }
 }

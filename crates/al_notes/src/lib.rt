@@ -34,6 +34,7 @@ mod types;
 mod units;
 mod view;
 mod visible;
+mod words;
 
 pub use around::needs_of;
 pub use notes::Notes;

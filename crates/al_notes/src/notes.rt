@@ -1,25 +1,44 @@
 // Notes on a diagnostic.
 use crate::around::files_around;
-use crate::file_names::stem;
+use crate::context::add_used;
+use crate::file_names::{is_above, unit_of_file};
+use crate::near::Mark;
 use crate::predefined::predefined_text;
 use crate::said::Said;
-use crate::telling::{Rules, tell};
-use crate::view::View;
+use crate::telling::tell;
+use crate::view::{Found, View, add_declared};
+use crate::words::is_same;
 use al_base::{Diagnostic, Files};
 use al_expected::Grammar;
 use al_sketch::Sketch;
-use al_subset::Patterns;
+use al_subset::Subset;
 use std::alloc::{AllocError, Global};
 use std::collections::BTreeMap;
+
+/// A file that was read, or a predefined unit.
+struct Source {
+    name: Vec<u8>,
+    sketch: Sketch,
+}
+
+impl Drop for Source {
+    fn drop(self) {
+        let Source { name: _, sketch: _ } = self;
+    }
+}
 
 /// Makes notes on diagnostics of some files.
 pub struct Notes<'a> {
     alloc: Global,
     texts: &'a Files,
-    sketches: BTreeMap<Vec<u8>, Sketch>,
-    /// The rules and the patterns, once a syntax error was seen.
+    /// What was read so far, and at which number it is.
+    sources: Vec<Source>,
+    numbers: BTreeMap<Vec<u8>, usize>,
+    /// What isn't in the subset, once a diagnostic was seen; the rules, once a syntax error was.
+    subset: Option<Subset>,
     grammar: Option<Grammar>,
-    patterns: Option<Patterns>,
+    /// All files, once a unit was missing.
+    marks: Vec<Mark>,
 }
 
 impl<'a> Drop for Notes<'a> {
@@ -27,9 +46,11 @@ impl<'a> Drop for Notes<'a> {
         let Notes {
             alloc: _,
             texts: _,
-            sketches: _,
+            sources: _,
+            numbers: _,
+            subset: _,
             grammar: _,
-            patterns: _,
+            marks: _,
         } = self;
     }
 }
@@ -40,9 +61,11 @@ impl<'a> Notes<'a> {
         Notes {
             alloc,
             texts,
-            sketches: BTreeMap::new(alloc),
+            sources: Vec::new(alloc),
+            numbers: BTreeMap::new(alloc),
+            subset: None,
             grammar: None,
-            patterns: None,
+            marks: Vec::new(alloc),
         }
     }
 
@@ -52,138 +75,215 @@ impl<'a> Notes<'a> {
     ///
     /// If out of memory.
     pub fn of(&mut self, found: &Diagnostic) -> Result<Vec<Vec<u8>>, AllocError> {
-        self.load(found.file.as_slice())?;
-        if found.code == 101 {
-            self.load_rules()?;
-        }
+        self.load_tables(found.code)?;
+        let around = self.load_around(found.file.as_slice(), found.code)?;
         let mut said = Said::new(self.alloc);
-        self.say(found, &mut said)?;
-        Ok(said.into_lines())
+        self.say(found, around.as_slice(), &mut said)?;
+        said.into_lines()
     }
 
-    // Says what there is to say of a diagnostic, whose file's sketch is ready.
-    fn say(&mut self, found: &Diagnostic, said: &mut Said) -> Result<(), AllocError> {
-        let file = found.file.as_slice();
-        let around = self.load_around(file, found.code)?;
-        let Some(sketch) = self.sketches.get(file) else {
+    // Says what there is to say of a diagnostic, whose file is the first of these.
+    fn say(
+        &mut self,
+        found: &Diagnostic,
+        around: &[usize],
+        said: &mut Said,
+    ) -> Result<(), AllocError> {
+        let Some(source) = source_at(self.sources.as_slice(), around.first()) else {
             return Ok(());
         };
-        let rules = rules_of(self.grammar.as_ref(), self.patterns.as_ref());
-        let view = View {
-            alloc: self.alloc,
-            texts: self.texts,
-            sketches: &self.sketches,
-            around: around.as_slice(),
-            file,
-            sketch,
-            at: sketch.first_at(found.place.line, found.place.col),
+        let Some(subset) = self.subset.as_ref() else {
+            return Ok(());
         };
-        tell(&view, rules.as_ref(), found.code, said)
+        let grammar = self.grammar.as_ref();
+        let at = source.sketch.first_at(found.place.line, found.place.col);
+        let declared = declared_in(self.alloc, self.sources.as_slice(), around)?;
+        let used = used_at(self.alloc, self.sources.as_slice(), around, at)?;
+        let view = view_of(
+            self,
+            source,
+            subset,
+            grammar,
+            declared.as_slice(),
+            used.as_slice(),
+            at,
+        );
+        tell(&view, found.code, said);
+        Ok(())
     }
 
-    // Has the sketch of a file, or of a predefined unit, ready.
-    fn load(&mut self, file: &[u8]) -> Result<(), AllocError> {
-        if self.sketches.get(file).is_some() {
-            return Ok(());
+    // Reads a file, or a predefined unit, unless it was read already; its number, if there is one.
+    fn load(&mut self, file: &[u8]) -> Result<Option<usize>, AllocError> {
+        if let Some(number) = self.numbers.get(file) {
+            return Ok(Some(*number));
         }
         let found = match self.texts.get(file) {
             Some(text) => Some(text),
             None => predefined_text(file),
         };
-        if let Some(text) = found {
-            let sketch = Sketch::of(self.alloc, text)?;
-            let name = Vec::from_slice(self.alloc, file)?;
-            self.sketches.insert(name, sketch)?;
+        match found {
+            Some(text) => self.read(file, text),
+            None => Ok(None),
         }
-        Ok(())
     }
 
-    // Has the rules and the patterns ready.
-    fn load_rules(&mut self) -> Result<(), AllocError> {
-        if self.grammar.is_none() {
+    fn read(&mut self, file: &[u8], text: &[u8]) -> Result<Option<usize>, AllocError> {
+        let number = self.sources.len();
+        let sketch = Sketch::of(self.alloc, text)?;
+        let name = Vec::from_slice(self.alloc, file)?;
+        self.sources.push(Source { name, sketch })?;
+        let name = Vec::from_slice(self.alloc, file)?;
+        self.numbers.insert(name, number)?;
+        Ok(Some(number))
+    }
+
+    // Has the tables ready that notes on a code need.
+    fn load_tables(&mut self, code: u16) -> Result<(), AllocError> {
+        if self.subset.is_none() {
+            self.subset = Some(Subset::new(self.alloc)?);
+        }
+        if code == 101 && self.grammar.is_none() {
             self.grammar = Some(Grammar::new(self.alloc)?);
         }
-        if self.patterns.is_none() {
-            self.patterns = Some(Patterns::new(self.alloc)?);
+        if matches!(code, 202 | 205) {
+            self.load_marks()?;
         }
         Ok(())
     }
 
-    // Has the sketches of the files ready whose declarations can be seen in a file, and names these.
-    fn load_around(&mut self, file: &[u8], code: u16) -> Result<Vec<Vec<u8>>, AllocError> {
+    fn load_marks(&mut self) -> Result<(), AllocError> {
+        if !self.marks.is_empty() {
+            return Ok(());
+        }
+        let Ok(files) = self.texts.list() else {
+            return Err(AllocError);
+        };
+        for (file, _text) in files.iter() {
+            self.add_mark(file)?;
+        }
+        Ok(())
+    }
+
+    fn add_mark(&mut self, file: &[u8]) -> Result<(), AllocError> {
+        let unit = unit_of_file(self.alloc, file)?;
+        self.marks.push(Mark::of(unit))?;
+        Ok(())
+    }
+
+    // Reads a file, and those whose declarations can be seen in it; their numbers, its own first.
+    fn load_around(&mut self, file: &[u8], code: u16) -> Result<Vec<usize>, AllocError> {
         let mut around = Vec::new(self.alloc);
-        around.push(Vec::from_slice(self.alloc, file)?)?;
+        let Some(own) = self.load(file)? else {
+            return Ok(around);
+        };
+        around.push(own)?;
         if code < 200 {
             return Ok(around);
         }
-        for number in 0..MOST_AROUND {
-            if !self.load_one(file, number, &mut around)? {
-                break;
-            }
+        for next in 0..MOST_AROUND {
+            self.load_named(file, next, &mut around)?;
         }
         Ok(around)
     }
 
-    // Has the sketch of one of those files ready, and adds those that it names; whether it is there.
-    fn load_one(
+    // Reads what is named in one of those files: in the file itself, and in the declarations above it.
+    fn load_named(
         &mut self,
         file: &[u8],
-        number: usize,
-        around: &mut Vec<Vec<u8>>,
-    ) -> Result<bool, AllocError> {
-        let Some(name) = around.get(number) else {
-            return Ok(false);
-        };
-        let name = Vec::from_slice(self.alloc, name.as_slice())?;
-        self.load(name.as_slice())?;
-        if number == 0 || is_above(name.as_slice(), file) {
-            self.add_around(name.as_slice(), number == 0, around)?;
-        }
-        Ok(true)
-    }
-
-    // Adds what is named in a file of those around; of the first one, of its declaration and of what is above it.
-    fn add_around(
-        &self,
-        name: &[u8],
-        is_first: bool,
-        around: &mut Vec<Vec<u8>>,
+        next: usize,
+        around: &mut Vec<usize>,
     ) -> Result<(), AllocError> {
-        let Some(sketch) = self.sketches.get(name) else {
+        let Some(source) = source_at(self.sources.as_slice(), around.get(next)) else {
             return Ok(());
         };
-        let named = files_around(self.alloc, self.texts, name, sketch, is_first)?;
-        for other in named {
-            if !is_among(around.as_slice(), other.as_slice()) {
-                around.push(other)?;
+        let name = source.name.as_slice();
+        if next > 0 && !is_above(name, file) {
+            return Ok(());
+        }
+        let named = files_around(self.alloc, self.texts, name, &source.sketch, next == 0)?;
+        for other in named.iter() {
+            self.add_around(other.as_slice(), around)?;
+        }
+        Ok(())
+    }
+
+    // Reads a file and adds its number, unless it is there.
+    fn add_around(&mut self, file: &[u8], around: &mut Vec<usize>) -> Result<(), AllocError> {
+        let number = self.load(file)?;
+        if let Some(number) = number {
+            if around.len() < MOST_AROUND && !around.contains(&number) {
+                around.push(number)?;
             }
         }
         Ok(())
     }
 }
 
-// The rules and the patterns, if they are ready.
-fn rules_of<'a>(grammar: Option<&'a Grammar>, patterns: Option<&'a Patterns>) -> Option<Rules<'a>> {
-    Some(Rules {
-        grammar: grammar?,
-        patterns: patterns?,
-    })
+// What notes on a diagnostic of that source are made from.
+fn view_of<'v>(
+    notes: &'v Notes<'_>,
+    source: &'v Source,
+    subset: &'v Subset,
+    grammar: Option<&'v Grammar>,
+    declared: &'v [Found<'v>],
+    used: &'v [&'v [u8]],
+    at: usize,
+) -> View<'v> {
+    View {
+        alloc: notes.alloc,
+        texts: notes.texts,
+        declared,
+        used,
+        marks: notes.marks.as_slice(),
+        subset,
+        grammar,
+        file: source.name.as_slice(),
+        sketch: &source.sketch,
+        at,
+    }
+}
+
+fn source_at<'b>(sources: &'b [Source], number: Option<&usize>) -> Option<&'b Source> {
+    sources.get(*number?)
+}
+
+// What these files declare.
+fn declared_in<'b>(
+    alloc: Global,
+    sources: &'b [Source],
+    around: &[usize],
+) -> Result<Vec<Found<'b>>, AllocError> {
+    let mut declared = Vec::new(alloc);
+    for number in around {
+        if let Some(source) = sources.get(*number) {
+            add_declared(source.name.as_slice(), &source.sketch, &mut declared)?;
+        }
+    }
+    Ok(declared)
+}
+
+// What use clauses name: those before a lexeme of the first of these files, and those of the declarations above it.
+fn used_at<'b>(
+    alloc: Global,
+    sources: &'b [Source],
+    around: &[usize],
+    at: usize,
+) -> Result<Vec<&'b [u8]>, AllocError> {
+    let mut used = Vec::new(alloc);
+    let Some(own) = source_at(sources, around.first()) else {
+        return Ok(used);
+    };
+    add_used(&own.sketch, at, &mut used)?;
+    for number in around {
+        if let Some(source) = sources.get(*number) {
+            let is_own = is_same(source.name.as_slice(), own.name.as_slice());
+            if !is_own && is_above(source.name.as_slice(), own.name.as_slice()) {
+                add_used(&source.sketch, source.sketch.len(), &mut used)?;
+            }
+        }
+    }
+    Ok(used)
 }
 
 /// How many files are read for one diagnostic at most.
 const MOST_AROUND: usize = 64;
-
-// Whether a file is the declaration of a file's unit, or of one above it.
-fn is_above(name: &[u8], file: &[u8]) -> bool {
-    let above = stem(name);
-    stem(file).get(..above.len()) == Some(above)
-}
-
-fn is_among(names: &[Vec<u8>], name: &[u8]) -> bool {
-    for other in names {
-        if other.as_slice() == name {
-            return true;
-        }
-    }
-    false
-}

@@ -1,4 +1,5 @@
 // The predefined units as sources, for what is said of their names.
+use crate::words::is_same;
 
 const STANDARD: &[u8] = b"package Standard is
 type Boolean is (False, True);
@@ -25,13 +26,18 @@ end Ada.Real_Time;
 
 /// The source of a predefined unit that is named so, in lower case.
 pub fn predefined_text(unit: &[u8]) -> Option<&'static [u8]> {
-    if unit == b"standard".as_slice() {
+    if is_same(unit, b"standard") {
         Some(STANDARD)
-    } else if unit == b"ada.text_io".as_slice() {
+    } else if is_same(unit, b"ada.text_io") {
         Some(TEXT_IO)
-    } else if unit == b"ada.real_time".as_slice() {
+    } else if is_same(unit, b"ada.real_time") {
         Some(REAL_TIME)
     } else {
         None
     }
+}
+
+/// Whether a predefined unit is named so, in lower case.
+pub fn is_predefined(unit: &[u8]) -> bool {
+    predefined_text(unit).is_some()
 }

@@ -12,31 +12,12 @@ use crate::statements::{statements, tasks};
 use crate::types::no_interpretation;
 use crate::units::units;
 use crate::view::View;
-use al_expected::Grammar;
-use al_subset::Patterns;
-use std::alloc::AllocError;
 
-/// What notes on syntax errors are made by.
-#[derive(Clone, Copy)]
-pub struct Rules<'a> {
-    pub grammar: &'a Grammar,
-    pub patterns: &'a Patterns,
-}
-
-/// Says what there is to say of a diagnostic of this code; of a syntax error by the rules.
-///
-/// # Errors
-///
-/// `AllocError` if memory runs out.
-pub fn tell(
-    view: &View<'_>,
-    rules: Option<&Rules<'_>>,
-    code: u16,
-    said: &mut Said,
-) -> Result<(), AllocError> {
+/// Says what there is to say of a diagnostic of this code.
+pub fn tell(view: &View<'_>, code: u16, said: &mut Said) {
     match code {
         1..=6 => lexical(view, code, said),
-        101 => syntax(view, rules, said),
+        101 => syntax(view, said),
         200..=299 => units(view, code, said),
         301..=303 => tell_completions(view, code, said),
         304..=310 => tell_declarations(view, code, said),
@@ -46,7 +27,7 @@ pub fn tell(
     }
 }
 
-fn tell_completions(view: &View<'_>, code: u16, said: &mut Said) -> Result<(), AllocError> {
+fn tell_completions(view: &View<'_>, code: u16, said: &mut Said) {
     match code {
         301 => duplicate(view, said),
         302 => missing_completion(view, said),
@@ -54,7 +35,7 @@ fn tell_completions(view: &View<'_>, code: u16, said: &mut Said) -> Result<(), A
     }
 }
 
-fn tell_declarations(view: &View<'_>, code: u16, said: &mut Said) -> Result<(), AllocError> {
+fn tell_declarations(view: &View<'_>, code: u16, said: &mut Said) {
     match code {
         304 => not_static(view, said),
         305 => out_of_limits(view, said),
@@ -63,7 +44,7 @@ fn tell_declarations(view: &View<'_>, code: u16, said: &mut Said) -> Result<(), 
     }
 }
 
-fn tell_names(view: &View<'_>, code: u16, said: &mut Said) -> Result<(), AllocError> {
+fn tell_names(view: &View<'_>, code: u16, said: &mut Said) {
     match code {
         401 => not_visible(view, said),
         402 => no_interpretation(view, said),

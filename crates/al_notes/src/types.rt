@@ -1,14 +1,14 @@
 // E402: the types of expressions, as far as the sources say.
-use crate::calls::check_calls;
-use crate::completions::{named_scope, what_is};
-use crate::names::{kind_of_name, standard};
-use crate::note;
+use crate::calls::{argument_count, check_calls};
+use crate::completions::{body_round, what_is};
+use crate::names::{is_component_of, kind_of_name, kind_of_one, missing_component, standard};
 use crate::operands::{check_aggregates, check_operands};
 use crate::said::Said;
 use crate::view::{Found, View};
-use crate::visible::{Way, declared_in, first_meant, way_of};
+use crate::visible::{Way, first_meant, way_of};
+use crate::words::{is_one_of, is_same};
+use crate::{add, note};
 use al_sketch::{DeclaredKind, LexemeKind, Sketch};
-use std::alloc::AllocError;
 
 /// Of which type something is.
 #[derive(Clone, Copy)]
@@ -20,8 +20,8 @@ pub enum Kind<'a> {
     /// A string.
     Text,
     /// An object of an array type without a name.
-    Array(Found<'a>),
-    Of(Found<'a>),
+    Array(&'a Found<'a>),
+    Of(&'a Found<'a>),
 }
 
 impl<'a> Kind<'a> {
@@ -36,10 +36,18 @@ impl<'a> Kind<'a> {
         }
     }
 
-    /// The type's declaration, if it is known.
-    pub fn declaration(&self) -> Option<Found<'a>> {
+    /// Whether it is known to be an integer type.
+    pub fn is_integer(&self) -> bool {
         match self {
-            Kind::Of(found) => Some(*found),
+            Kind::Of(found) => found.begins_with(b"range"),
+            _ => false,
+        }
+    }
+
+    /// The type's declaration, if it is known.
+    pub fn declaration(&self) -> Option<&'a Found<'a>> {
+        match self {
+            Kind::Of(found) => Some(found),
             _ => None,
         }
     }
@@ -49,7 +57,7 @@ impl<'a> Kind<'a> {
         match (self, other) {
             (Kind::Unknown, _) | (_, Kind::Unknown) => false,
             (Kind::Of(one), Kind::Of(two)) => {
-                one.file != two.file || one.declared.name != two.declared.name
+                !is_same(one.file, two.file) || one.declared.name != two.declared.name
             }
             (Kind::Universal, Kind::Of(found)) | (Kind::Of(found), Kind::Universal) => {
                 is_no_integer(found)
@@ -60,89 +68,65 @@ impl<'a> Kind<'a> {
     }
 }
 
-/// Whether a type is an integer type.
-pub fn is_integer(found: &Found<'_>) -> bool {
-    found
-        .sketch
-        .is(found.declared.name.saturating_add(2), b"range")
-}
-
 /// Whether a type is known to be no integer type.
 pub fn is_no_integer(found: &Found<'_>) -> bool {
-    let first = found.declared.name.saturating_add(2);
-    found.sketch.is(first, b"(")
-        || found.sketch.is(first, b"array")
-        || found.sketch.is(first, b"record")
-        || found.sketch.is(first, b"null")
+    let first = found.sketch.word(found.declared.name.saturating_add(2));
+    is_one_of(first, "( array record null")
 }
 
 /// The type that a mark in a source names, through subtypes.
-///
-/// # Errors
-///
-/// `AllocError` if memory runs out.
 pub fn type_of_mark<'a>(
     view: &View<'a>,
     file: &'a [u8],
     sketch: &'a Sketch,
     mark: (usize, usize),
-) -> Result<Option<Found<'a>>, AllocError> {
-    let mut file = file;
-    let mut sketch = sketch;
-    let mut mark = mark;
+) -> Option<&'a Found<'a>> {
+    let mut found = named_by_mark(view, file, sketch, mark)?;
     for _subtype in 0..16 {
-        if mark.1 == 0 {
-            break;
-        }
-        let Some(found) = named_by_mark(view, file, sketch, mark)? else {
-            break;
-        };
         if found.declared.kind == DeclaredKind::Type {
-            return Ok(Some(found));
+            return Some(found);
         }
-        file = found.file;
-        sketch = found.sketch;
-        mark = found.declared.mark;
+        found = named_by_mark(view, found.file, found.sketch, found.declared.mark)?;
     }
-    Ok(None)
+    None
 }
 
 /// The type or subtype that a mark names, if it is one alone.
-///
-/// # Errors
-///
-/// `AllocError` if memory runs out.
 pub fn named_by_mark<'a>(
     view: &View<'a>,
     file: &[u8],
     sketch: &Sketch,
     mark: (usize, usize),
-) -> Result<Option<Found<'a>>, AllocError> {
-    let last = mark.1.saturating_sub(1);
+) -> Option<&'a Found<'a>> {
+    let last = mark.1.checked_sub(1)?;
     let name = sketch.word(last);
-    if last > mark.0 {
-        let unit = sketch.words(mark.0, last.saturating_sub(1));
-        let some = declared_in(view, unit, name)?;
-        return Ok(first_type(some.as_slice()));
-    }
-    let all = view.all_named(name)?;
-    for found in all.iter() {
-        if found.file == file && is_type(found) {
-            return Ok(Some(*found));
-        }
-    }
+    let unit = if last > mark.0 {
+        Some(sketch.words(mark.0, last.saturating_sub(1)))
+    } else {
+        None
+    };
     let mut only = None;
-    for found in all.iter() {
-        let is_seen = found.sketch.is_outermost(found.declared.scope)
-            && !matches!(way_of(view, found)?, Way::Private);
-        if is_type(found) && is_seen {
-            if only.is_some() {
-                return Ok(None);
+    let mut is_alone = true;
+    for found in view.declared {
+        if !is_type(found) || !found.is_named(name) {
+            continue;
+        }
+        match unit {
+            Some(unit) if found.is_in_unit(unit) => return Some(found),
+            None if is_same(found.file, file) => return Some(found),
+            None if is_seen(view, found) => {
+                is_alone = only.is_none();
+                only = Some(found);
             }
-            only = Some(*found);
+            _ => {}
         }
     }
-    Ok(only)
+    if is_alone { only } else { None }
+}
+
+// Whether a declaration of another file may be meant.
+fn is_seen(view: &View<'_>, found: &Found<'_>) -> bool {
+    found.sketch.is_outermost(found.declared.scope) && way_of(view, found) != Way::Private
 }
 
 fn is_type(found: &Found<'_>) -> bool {
@@ -152,30 +136,17 @@ fn is_type(found: &Found<'_>) -> bool {
     )
 }
 
-fn first_type<'a>(some: &[Found<'a>]) -> Option<Found<'a>> {
-    for found in some {
-        if is_type(found) {
-            return Some(*found);
-        }
-    }
-    None
-}
-
 /// The type of what a declaration declares, or gives back.
-///
-/// # Errors
-///
-/// `AllocError` if memory runs out.
-pub fn mark_type<'a>(view: &View<'a>, found: &Found<'a>) -> Result<Kind<'a>, AllocError> {
+pub fn mark_type<'a>(view: &View<'a>, found: &Found<'a>) -> Kind<'a> {
     if found.declared.mark.1 == 0 {
-        return Ok(Kind::Unknown);
+        return Kind::Unknown;
     }
-    let named = type_of_mark(view, found.file, found.sketch, found.declared.mark)?;
-    Ok(kind_of_type(named))
+    let named = type_of_mark(view, found.file, found.sketch, found.declared.mark);
+    kind_of_type(named)
 }
 
 /// The type that was found, if one was.
-pub fn kind_of_type<'a>(found: Option<Found<'a>>) -> Kind<'a> {
+pub fn kind_of_type<'a>(found: Option<&'a Found<'a>>) -> Kind<'a> {
     match found {
         Some(found) => Kind::Of(found),
         None => Kind::Unknown,
@@ -183,21 +154,13 @@ pub fn kind_of_type<'a>(found: Option<Found<'a>>) -> Kind<'a> {
 }
 
 /// The type of the expression from a lexeme to the one before that.
-///
-/// # Errors
-///
-/// `AllocError` if memory runs out.
-pub fn type_of_expression<'a>(
-    view: &View<'a>,
-    from: usize,
-    to: usize,
-) -> Result<Kind<'a>, AllocError> {
+pub fn type_of_expression<'a>(view: &View<'a>, from: usize, to: usize) -> Kind<'a> {
     let (from, to) = without_parentheses(view.sketch, from, to);
     let shape = shape_of(view.sketch, from, to);
     match shape {
         Shape::Boolean => standard(view, b"Boolean"),
-        Shape::Text => Ok(Kind::Text),
-        Shape::Aggregate => Ok(Kind::Unknown),
+        Shape::Text => Kind::Text,
+        Shape::Aggregate => Kind::Unknown,
         Shape::Operands => type_of_operands(view, from, to),
     }
 }
@@ -213,39 +176,39 @@ enum Shape {
 
 fn shape_of(sketch: &Sketch, from: usize, to: usize) -> Shape {
     let mut depth = 0usize;
-    let mut shape = Shape::Operands;
+    let mut is_text = false;
     for index in from..to {
         let word = sketch.word(index);
-        if word == b"(".as_slice() {
-            depth = depth.saturating_add(1);
-        } else if word == b")".as_slice() {
-            depth = depth.saturating_sub(1);
-        } else if depth == 0 && is_boolean_operator(word) {
-            return Shape::Boolean;
-        } else if depth == 0 && word == b"&".as_slice() {
-            shape = Shape::Text;
-        } else if depth == 0 && word == b",".as_slice() {
-            return Shape::Aggregate;
-        } else if word.eq_ignore_ascii_case(b"others") {
+        depth = depth_behind(word, depth);
+        if word.eq_ignore_ascii_case(b"others") || (depth == 0 && is_same(word, b",")) {
             return Shape::Aggregate;
         }
+        if depth == 0 && is_boolean_operator(word) {
+            return Shape::Boolean;
+        }
+        if depth == 0 && is_same(word, b"&") {
+            is_text = true;
+        }
     }
-    shape
+    if is_text {
+        Shape::Text
+    } else {
+        Shape::Operands
+    }
+}
+
+/// How many parentheses are open behind a lexeme, if so many are before it.
+pub fn depth_behind(word: &[u8], depth: usize) -> usize {
+    match word {
+        b"(" => depth.saturating_add(1),
+        b")" => depth.saturating_sub(1),
+        _ => depth,
+    }
 }
 
 /// Whether an operator gives a Boolean.
 pub fn is_boolean_operator(word: &[u8]) -> bool {
-    matches!(word, b"=" | b"/=" | b"<" | b"<=" | b">" | b">=")
-        || is_logical(word)
-        || word.eq_ignore_ascii_case(b"in")
-}
-
-// Whether an operator takes and gives Booleans.
-fn is_logical(word: &[u8]) -> bool {
-    word.eq_ignore_ascii_case(b"and")
-        || word.eq_ignore_ascii_case(b"or")
-        || word.eq_ignore_ascii_case(b"xor")
-        || word.eq_ignore_ascii_case(b"not")
+    is_one_of(word, "= /= < <= > >= in and or xor not")
 }
 
 // What is between parentheses that are round all of an expression.
@@ -264,7 +227,7 @@ fn without_parentheses(sketch: &Sketch, from: usize, to: usize) -> (usize, usize
 }
 
 // The type of the first operand that isn't a mere number.
-fn type_of_operands<'a>(view: &View<'a>, from: usize, to: usize) -> Result<Kind<'a>, AllocError> {
+fn type_of_operands<'a>(view: &View<'a>, from: usize, to: usize) -> Kind<'a> {
     let mut kind = Kind::Unknown;
     let mut at = from;
     for _operand in from..to {
@@ -273,11 +236,11 @@ fn type_of_operands<'a>(view: &View<'a>, from: usize, to: usize) -> Result<Kind<
         }
         match view.sketch.kind(at) {
             Some(LexemeKind::Number) => kind = Kind::Universal,
-            Some(LexemeKind::Text) => return Ok(Kind::Text),
+            Some(LexemeKind::Text) => return Kind::Text,
             Some(LexemeKind::Identifier) => {
-                let (found, end) = kind_of_name(view, at)?;
+                let (found, end) = kind_of_name(view, at);
                 if !matches!(found, Kind::Universal) {
-                    return Ok(found);
+                    return found;
                 }
                 kind = found;
                 at = end.saturating_sub(1).max(at);
@@ -286,78 +249,142 @@ fn type_of_operands<'a>(view: &View<'a>, from: usize, to: usize) -> Result<Kind<
         }
         at = at.saturating_add(1);
     }
-    Ok(kind)
+    kind
 }
 
 /// E402: what is wanted and what was found.
-///
-/// # Errors
-///
-/// `AllocError` if memory runs out.
-pub fn no_interpretation(view: &View<'_>, said: &mut Said) -> Result<(), AllocError> {
+pub fn no_interpretation(view: &View<'_>, said: &mut Said) {
     let end = context_end(view.sketch, view.at);
-    check_aggregates(view, view.at, end, said)?;
-    if said.lines.is_empty() {
-        check_operands(view, view.at, end, false, said)?;
+    for part in 0..9 {
+        if said.is_empty() {
+            check_part(view, end, part, said);
+        }
     }
-    if said.lines.is_empty() {
-        tell_wanted(view, end, said)?;
-    }
-    if said.lines.is_empty() {
-        check_parts(view, end, said)?;
-    }
-    Ok(())
 }
 
-// Says which operator inside a call, which call or which name of the context doesn't fit.
-fn check_parts(view: &View<'_>, end: usize, said: &mut Said) -> Result<(), AllocError> {
-    check_operands(view, view.at, end, true, said)?;
-    if said.lines.is_empty() {
-        check_calls(view, view.at, end, said)?;
+// Says which part of the context doesn't fit, looking for one thing after another.
+fn check_part(view: &View<'_>, end: usize, part: usize, said: &mut Said) {
+    match part {
+        0 => check_aggregates(view, view.at, end, said),
+        1 => check_operands(view, view.at, end, false, said),
+        2 => tell_wanted(view, end, said),
+        3 => tell_component(view, end, said),
+        4 => check_operands(view, view.at, end, true, said),
+        5 => check_calls(view, view.at, end, said),
+        6 => tell_statement(view, end, said),
+        7 => tell_count(view, end, said),
+        _ => tell_names(view, end, said),
     }
-    if said.lines.is_empty() {
-        tell_statement(view, end, said)?;
+}
+
+// Says of a name in the context that a record has no component that is named so.
+fn tell_component(view: &View<'_>, end: usize, said: &mut Said) {
+    for index in view.at..end {
+        let is_selector = view.sketch.is(index.saturating_sub(1), b".");
+        if !said.is_empty() || is_selector || !view.sketch.is_identifier(index) {
+            continue;
+        }
+        if let Some((record, name)) = missing_component(view, index) {
+            say_component(view, record, name, said);
+        }
     }
-    if said.lines.is_empty() {
-        tell_names(view, end, said)?;
+}
+
+fn say_component(view: &View<'_>, record: &Found<'_>, name: usize, said: &mut Said) {
+    say_with_spot(record, said);
+    add!(said; b" has no component ", view.sketch.word(name));
+    let mut mark: &[u8] = b": it has ";
+    for found in view.declared {
+        if is_component_of(record, found) {
+            add!(said; mark, found.name());
+            mark = b", ";
+        }
     }
-    Ok(())
+    said.end()
+}
+
+// Goes on with a name and its place in parentheses.
+fn say_with_spot(found: &Found<'_>, said: &mut Said) {
+    add!(said; found.name(), b" (");
+    found.add_spot(said);
+    said.add(b")");
+}
+
+// Says how many components an aggregate by places has, and its type.
+fn tell_count(view: &View<'_>, end: usize, said: &mut Said) {
+    let Some((wanted, from)) = wanted_there(view, end) else {
+        return;
+    };
+    let found = match wanted {
+        Kind::Array(found) | Kind::Of(found) => found,
+        _ => return,
+    };
+    let given = argument_count(view.sketch, from);
+    // One by names has `=>`, at which the context ends.
+    let is_by_places = given > 1 && view.sketch.closing(from) < end;
+    if is_by_places && say_size(view, found, given, said) {
+        said.add(b", and the aggregate has ");
+        said.add_number(given);
+        note!(said; b" components")
+    }
+}
+
+// Goes on with the index of an array, or with how many components a record has, if an aggregate hasn't as many; whether it is one of these.
+fn say_size(view: &View<'_>, found: &Found<'_>, given: usize, said: &mut Said) -> bool {
+    let first = found.declared.name.saturating_add(2);
+    let (from, to) = found.declared.formals;
+    let is_array = found.declared.kind != DeclaredKind::Type || found.sketch.is(first, b"array");
+    if is_array && to > 0 {
+        add!(said; b"the index is ", found.sketch.words(from, to));
+        return true;
+    }
+    let count = component_count(view, found);
+    if !found.sketch.is(first, b"record") || count == given {
+        return false;
+    }
+    say_with_spot(found, said);
+    said.add(b" has ");
+    said.add_number(count);
+    true
+}
+
+fn component_count(view: &View<'_>, record: &Found<'_>) -> usize {
+    let mut count = 0usize;
+    for found in view.declared {
+        if is_component_of(record, found) {
+            count = count.saturating_add(1);
+        }
+    }
+    count
 }
 
 // Says of a function that its call is no statement.
-fn tell_statement(view: &View<'_>, end: usize, said: &mut Said) -> Result<(), AllocError> {
+fn tell_statement(view: &View<'_>, end: usize, said: &mut Said) {
     let is_first = begins_statement(view.sketch, view.at);
     if !is_first || assignment_in(view.sketch, view.at, end).is_some() {
-        return Ok(());
+        return;
     }
-    let Some(found) = first_meant(view, view.word())? else {
-        return Ok(());
+    let Some(found) = first_meant(view, view.word()) else {
+        return;
     };
     if found.declared.kind != DeclaredKind::Function {
-        return Ok(());
+        return;
     }
-    said.add(found.name());
-    said.add(b" is a function, declared ");
+    add!(said; found.name(), b" is a function, declared ");
     found.add_place(said);
     note!(said; b": its call is no statement; assign its value, or pass it on")
 }
 
 // Whether a statement begins at a lexeme.
 fn begins_statement(sketch: &Sketch, at: usize) -> bool {
-    let before = sketch.word(at.saturating_sub(1));
-    sketch.is_among_statements(at)
-        && (before == b";".as_slice() || before == b"=>".as_slice() || is_before_statement(before))
+    sketch.is_among_statements(at) && is_one_of(sketch.word(at.saturating_sub(1)), BEFORE_STATEMENT)
 }
 
 // The end of the context that begins at a lexeme.
 fn context_end(sketch: &Sketch, from: usize) -> usize {
     let end = sketch.declaration_end(from);
     for index in from..end {
-        let is_word = sketch.is(index, b"then")
-            || sketch.is(index, b"loop")
-            || sketch.is(index, b"is")
-            || sketch.is(index, b"=>");
-        if is_word {
+        if is_one_of(sketch.word(index), "then loop is =>") {
             return index;
         }
     }
@@ -365,118 +392,81 @@ fn context_end(sketch: &Sketch, from: usize) -> usize {
 }
 
 // Says which type is needed there and which was found, if they differ.
-fn tell_wanted(view: &View<'_>, end: usize, said: &mut Said) -> Result<(), AllocError> {
-    let before = view.at.saturating_sub(1);
-    let word = view.sketch.word(before);
-    if is_condition_word(word) {
-        let wanted = standard(view, b"Boolean")?;
-        return tell_types(view, wanted, view.at, end, said);
-    }
-    if word == b":=".as_slice() {
-        let wanted = target_before(view, before)?;
-        return tell_types(view, wanted, view.at, end, said);
-    }
-    if word.eq_ignore_ascii_case(b"until") {
+fn tell_wanted(view: &View<'_>, end: usize, said: &mut Said) {
+    if view.sketch.is(view.at.saturating_sub(1), b"until") {
         return note!(said; b"delay until wants a Time of Ada.Real_Time, as Clock + Milliseconds (100)");
     }
+    if let Some((wanted, from)) = wanted_there(view, end) {
+        tell_types(view, wanted, from, end, said);
+    }
+}
+
+// The type that is needed in the context that begins at the place, and the first lexeme of the expression that is to have it.
+fn wanted_there<'a>(view: &View<'a>, end: usize) -> Option<(Kind<'a>, usize)> {
+    let before = view.at.saturating_sub(1);
+    let word = view.sketch.word(before);
+    if is_one_of(word, "if elsif while when") {
+        return Some((standard(view, b"Boolean"), view.at));
+    }
+    if is_same(word, b":=") {
+        return Some((target_before(view, before), view.at));
+    }
     if word.eq_ignore_ascii_case(b"return") {
-        let wanted = result_round(view)?;
-        return tell_types(view, wanted, view.at, end, said);
+        return Some((result_round(view), view.at));
     }
-    if let Some(assign) = assignment_in(view.sketch, view.at, end) {
-        let (wanted, _end) = kind_of_name(view, view.at)?;
-        return tell_types(view, wanted, assign.saturating_add(1), end, said);
-    }
-    Ok(())
+    let assign = assignment_in(view.sketch, view.at, end)?;
+    let (wanted, _end) = kind_of_name(view, view.at);
+    Some((wanted, assign.saturating_add(1)))
 }
 
-fn is_condition_word(word: &[u8]) -> bool {
-    word.eq_ignore_ascii_case(b"if")
-        || word.eq_ignore_ascii_case(b"elsif")
-        || word.eq_ignore_ascii_case(b"while")
-        || word.eq_ignore_ascii_case(b"when")
-}
-
-fn tell_types<'a>(
-    view: &View<'a>,
-    wanted: Kind<'a>,
-    from: usize,
-    to: usize,
-    said: &mut Said,
-) -> Result<(), AllocError> {
-    let found = type_of_expression(view, from, to)?;
+fn tell_types<'a>(view: &View<'a>, wanted: Kind<'a>, from: usize, to: usize, said: &mut Said) {
+    let found = type_of_expression(view, from, to);
     if !found.differs(&wanted) {
-        return Ok(());
+        return;
     }
-    note!(said; b"wanted ", wanted.name(), b", found ", found.name())?;
-    if let (Kind::Of(one), Kind::Of(two)) = (wanted, found) {
-        if is_integer(&one) && is_integer(&two) {
-            let name = one.name();
-            return note!(said; b"a conversion is written ",
-                name,
-                b" (",
-                view.sketch.words(from, to),
-                b")");
-        }
+    note!(said; b"wanted ", wanted.name(), b", found ", found.name());
+    if wanted.is_integer() && found.is_integer() {
+        let given = view.sketch.words(from, to);
+        note!(said; b"a conversion is written ", wanted.name(), b" (", given, b")");
     }
-    Ok(())
 }
 
 // The type of what is before a `:=`: of the target of a statement, or of the object that is declared.
-fn target_before<'a>(view: &View<'a>, assign: usize) -> Result<Kind<'a>, AllocError> {
+fn target_before<'a>(view: &View<'a>, assign: usize) -> Kind<'a> {
     if !view.sketch.is_among_statements(assign) {
         return declared_before(view, assign);
     }
     for index in (0..assign).rev() {
-        let word = view.sketch.word(index);
-        if word == b";".as_slice() || word == b"=>".as_slice() || is_before_statement(word) {
-            let (kind, _end) = kind_of_name(view, index.saturating_add(1))?;
-            return Ok(kind);
+        if is_one_of(view.sketch.word(index), BEFORE_STATEMENT) {
+            let (kind, _end) = kind_of_name(view, index.saturating_add(1));
+            return kind;
         }
     }
-    Ok(Kind::Unknown)
+    Kind::Unknown
 }
 
-// Whether a statement may follow a word.
-fn is_before_statement(word: &[u8]) -> bool {
-    word.eq_ignore_ascii_case(b"begin")
-        || word.eq_ignore_ascii_case(b"then")
-        || word.eq_ignore_ascii_case(b"else")
-        || word.eq_ignore_ascii_case(b"loop")
-}
+/// The words that a statement may follow.
+const BEFORE_STATEMENT: &str = "; => begin then else loop";
 
 // The type of the object whose value begins behind a `:=`.
-fn declared_before<'a>(view: &View<'a>, assign: usize) -> Result<Kind<'a>, AllocError> {
+fn declared_before<'a>(view: &View<'a>, assign: usize) -> Kind<'a> {
     let mut wanted = Kind::Unknown;
-    for declared in view.sketch.declared() {
-        if declared.name < assign && declared.end > assign && declared.formals.1 == 0 {
-            let found = Found {
-                file: view.file,
-                sketch: view.sketch,
-                declared: *declared,
-            };
-            wanted = mark_type(view, &found)?;
+    for found in view.declared {
+        let declared = &found.declared;
+        let is_round = declared.name < assign && declared.end > assign;
+        if view.has(found) && is_round {
+            wanted = kind_of_one(view, found);
         }
     }
-    Ok(wanted)
+    wanted
 }
 
 // The type of the result of the function round the place.
-fn result_round<'a>(view: &View<'a>) -> Result<Kind<'a>, AllocError> {
-    let Some(name) = named_scope(view) else {
-        return Ok(Kind::Unknown);
-    };
-    for declared in view.sketch.declared() {
-        if declared.name == name {
-            let found = Found {
-                file: view.file,
-                sketch: view.sketch,
-                declared: *declared,
-            };
-            return mark_type(view, &found);
-        }
+fn result_round<'a>(view: &View<'a>) -> Kind<'a> {
+    match body_round(view) {
+        Some(found) => mark_type(view, found),
+        None => Kind::Unknown,
     }
-    Ok(Kind::Unknown)
 }
 
 // The `:=` of a statement, outside parentheses.
@@ -490,31 +480,29 @@ fn assignment_in(sketch: &Sketch, from: usize, to: usize) -> Option<usize> {
 }
 
 // Says how the names there are declared.
-fn tell_names(view: &View<'_>, end: usize, said: &mut Said) -> Result<(), AllocError> {
+fn tell_names(view: &View<'_>, end: usize, said: &mut Said) {
     for index in view.at..end {
-        if said.lines.len() >= 3 {
+        if said.count() >= 3 {
             break;
         }
         let is_selector = view.sketch.is(index.saturating_sub(1), b".");
         if view.sketch.is_identifier(index) && !is_selector {
-            tell_name(view, index, said)?;
+            tell_name(view, index, said);
         }
     }
-    Ok(())
 }
 
-fn tell_name(view: &View<'_>, index: usize, said: &mut Said) -> Result<(), AllocError> {
-    let Some(found) = first_meant(view, view.sketch.word(index))? else {
-        return Ok(());
+fn tell_name(view: &View<'_>, index: usize, said: &mut Said) {
+    let Some(found) = first_meant(view, view.sketch.word(index)) else {
+        return;
     };
-    say_declared(&found, said)?;
-    tell_private(view, &found, said)
+    say_declared(found, said);
+    tell_private(view, found, said)
 }
 
 // Says what a declaration is, of which subtype, and where.
-fn say_declared(found: &Found<'_>, said: &mut Said) -> Result<(), AllocError> {
-    said.add(found.name());
-    said.add(b" is ");
+fn say_declared(found: &Found<'_>, said: &mut Said) {
+    add!(said; found.name(), b" is ");
     let mark = found.mark();
     if mark.is_empty() {
         said.add(what_is(found.declared.kind));
@@ -525,8 +513,7 @@ fn say_declared(found: &Found<'_>, said: &mut Said) -> Result<(), AllocError> {
         } else {
             what_is(found.declared.kind)
         });
-        said.add(b" of ");
-        said.add(mark);
+        add!(said; b" of ", mark);
     }
     said.add(b", declared ");
     found.add_place(said);
@@ -534,18 +521,14 @@ fn say_declared(found: &Found<'_>, said: &mut Said) -> Result<(), AllocError> {
 }
 
 // Says that the type of an object is private elsewhere, if it is.
-fn tell_private(view: &View<'_>, found: &Found<'_>, said: &mut Said) -> Result<(), AllocError> {
-    let Kind::Of(named) = mark_type(view, found)? else {
-        return Ok(());
+fn tell_private(view: &View<'_>, found: &Found<'_>, said: &mut Said) {
+    let Kind::Of(named) = mark_type(view, found) else {
+        return;
     };
-    let is_private = named
-        .sketch
-        .is(named.declared.name.saturating_add(2), b"private");
-    if !is_private || named.file == view.file {
-        return Ok(());
+    if !named.begins_with(b"private") || view.has(named) {
+        return;
     }
-    said.add(named.name());
-    said.add(b" is a private type, declared ");
+    add!(said; named.name(), b" is a private type, declared ");
     named.add_place(said);
     note!(said; b": only its own package knows what it has")
 }

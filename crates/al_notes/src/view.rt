@@ -1,20 +1,29 @@
 // What notes on one diagnostic are made from.
-use crate::file_names::unit_of_file;
-use crate::predefined::predefined_text;
-use crate::said::{Said, folded};
+use crate::file_names::{is_file_of, stem};
+use crate::near::Mark;
+use crate::predefined::is_predefined;
+use crate::said::Said;
+use crate::words::is_same;
 use al_base::Files;
+use al_expected::Grammar;
 use al_sketch::{Declared, Sketch};
+use al_subset::Subset;
 use std::alloc::{AllocError, Global};
-use std::collections::BTreeMap;
 
 /// A diagnostic's file, the lexeme at its place, and what can be seen from there.
 #[derive(Clone, Copy)]
 pub struct View<'a> {
     pub alloc: Global,
     pub texts: &'a Files,
-    pub sketches: &'a BTreeMap<Vec<u8>, Sketch>,
-    /// The files that are looked into: its own, its declaration's, those above it, and those that with clauses name.
-    pub around: &'a [Vec<u8>],
+    /// What is declared in the files that are looked into: its own, its declaration's, those above it, and those that with clauses name.
+    pub declared: &'a [Found<'a>],
+    /// The packages that use clauses before the place name, and those of the declarations above.
+    pub used: &'a [&'a [u8]],
+    /// All files, for near names of units.
+    pub marks: &'a [Mark],
+    pub subset: &'a Subset,
+    /// The rules, for a syntax error.
+    pub grammar: Option<&'a Grammar>,
     pub file: &'a [u8],
     pub sketch: &'a Sketch,
     pub at: usize,
@@ -34,9 +43,26 @@ impl<'a> Found<'a> {
         self.sketch.word(self.declared.name)
     }
 
+    /// Whether that is its name.
+    pub fn is_named(&self, name: &[u8]) -> bool {
+        self.sketch.is(self.declared.name, name)
+    }
+
+    /// Whether the definition of this type begins with a word.
+    pub fn begins_with(&self, word: &[u8]) -> bool {
+        self.sketch.is(self.declared.name.saturating_add(2), word)
+    }
+
+    /// Whether it is of that unit, and not inside anything else there.
+    pub fn is_in_unit(&self, unit: &[u8]) -> bool {
+        self.declared.scope > 0
+            && self.sketch.is_outermost(self.declared.scope)
+            && is_file_of(self.file, unit)
+    }
+
     /// Goes on with where it is declared: at FILE:LINE; of a predefined one in its unit.
     pub fn add_place(&self, said: &mut Said) {
-        said.add(if predefined_text(self.file).is_some() {
+        said.add(if is_predefined(self.file) {
             b"in "
         } else {
             b"at "
@@ -46,7 +72,7 @@ impl<'a> Found<'a> {
 
     /// Goes on with FILE:LINE of its name; of a predefined one with its unit.
     pub fn add_spot(&self, said: &mut Said) {
-        if predefined_text(self.file).is_some() {
+        if is_predefined(self.file) {
             said.add(self.unit());
         } else {
             said.add_place(self.file, self.sketch.line(self.declared.name));
@@ -60,7 +86,7 @@ impl<'a> Found<'a> {
                 let first = self.sketch.name_start(unit.name);
                 self.sketch.words(first, unit.name.saturating_add(1))
             }
-            None => self.file,
+            None => stem(self.file),
         }
     }
 
@@ -81,54 +107,48 @@ impl<'a> View<'a> {
         self.sketch.word(self.at)
     }
 
-    /// The sketch of a file around.
-    pub fn other(&self, file: &[u8]) -> Option<&'a Sketch> {
-        self.sketches.get(file)
+    /// Whether a declaration is of the diagnostic's file.
+    pub fn has(&self, found: &Found<'_>) -> bool {
+        is_same(found.file, self.file)
     }
 
-    /// The unit of a file around, in lower case.
-    ///
-    /// # Errors
-    ///
-    /// `AllocError` if memory runs out.
-    pub fn unit_of(&self, file: &[u8]) -> Result<Vec<u8>, AllocError> {
-        if predefined_text(file).is_some() {
-            folded(self.alloc, file)
-        } else {
-            unit_of_file(self.alloc, file)
-        }
-    }
-
-    /// All declarations of a name in the files around, in the order of these files.
-    ///
-    /// # Errors
-    ///
-    /// `AllocError` if memory runs out.
-    pub fn all_named(&self, name: &[u8]) -> Result<Vec<Found<'a>>, AllocError> {
-        let mut all = Vec::new(self.alloc);
-        for file in self.around {
-            if let Some(sketch) = self.other(file.as_slice()) {
-                add_named(file.as_slice(), sketch, name, &mut all)?;
+    /// Whether a use clause at the place makes visible what a file's unit declares.
+    pub fn is_used(&self, file: &[u8]) -> bool {
+        for unit in self.used {
+            if is_file_of(file, unit) {
+                return true;
             }
         }
-        Ok(all)
+        false
+    }
+
+    /// The declaration of the diagnostic's file whose name is at a lexeme.
+    pub fn own(&self, name: usize) -> Option<&'a Found<'a>> {
+        for found in self.declared {
+            if found.declared.name == name && self.has(found) {
+                return Some(found);
+            }
+        }
+        None
     }
 }
 
-fn add_named<'a>(
+/// Adds what a file declares.
+///
+/// # Errors
+///
+/// `AllocError` if memory runs out.
+pub fn add_declared<'a>(
     file: &'a [u8],
     sketch: &'a Sketch,
-    name: &[u8],
     all: &mut Vec<Found<'a>>,
 ) -> Result<(), AllocError> {
     for declared in sketch.declared() {
-        if sketch.is(declared.name, name) {
-            all.push(Found {
-                file,
-                sketch,
-                declared: *declared,
-            })?;
-        }
+        all.push(Found {
+            file,
+            sketch,
+            declared: *declared,
+        })?;
     }
     Ok(())
 }

@@ -1,11 +1,9 @@
 // Objects of JSON, one a line.
 use crate::noted::Noted;
+use crate::writing::{Json, words_of};
 use al_base::{Files, UnitKey, file_name_of};
-use al_base_words::message_of;
-use al_folder::{RunEnd, line_at};
+use al_folder::RunEnd;
 use al_machine::Exception;
-use al_sketch::Sketch;
-use serde_json::{Value, json};
 use std::alloc::{AllocError, Global};
 
 /// The object of a diagnostic: `kind`, `file` with its folder, `line`, `col`, `end_col`, `code`, `text`, `notes`.
@@ -19,23 +17,28 @@ pub fn diagnostic_line(
     texts: &Files,
     noted: &Noted<'_>,
 ) -> Result<String, AllocError> {
-    let file = path_of(alloc, folders, noted.diagnostic.file.as_slice())?;
-    let code = code_of(alloc, noted.diagnostic.code)?;
-    let text = text_of(alloc, noted.diagnostic.code)?;
-    let notes = notes_of(alloc, noted)?;
-    let place = noted.diagnostic.place;
-    let end = end_col(alloc, texts, noted)?;
-    let value = json!(in alloc; {
-        "kind": "diagnostic",
-        "file": &file,
-        "line": place.line,
-        "col": place.col,
-        "end_col": end,
-        "code": &code,
-        "text": &text,
-        "notes": notes
-    })?;
-    value.to_string(alloc)
+    let mut json = Json::new(alloc);
+    add_diagnostic(folders, texts, noted, &mut json);
+    json.into_text()
+}
+
+fn add_diagnostic(folders: &Files, texts: &Files, noted: &Noted<'_>, json: &mut Json) {
+    let diagnostic = noted.diagnostic;
+    json.add_code("{\"code\":\"", diagnostic.code);
+    json.add_number("\",\"col\":", diagnostic.place.col as usize);
+    json.add_end_col(",\"end_col\":", texts, noted);
+    json.add_path(",\"file\":\"", folders, diagnostic.file.as_slice());
+    json.add_number(
+        "\",\"kind\":\"diagnostic\",\"line\":",
+        diagnostic.place.line as usize,
+    );
+    json.add(",\"notes\":[");
+    for (number, note) in noted.notes.iter().enumerate() {
+        json.add_text(if number == 0 { "\"" } else { ",\"" }, note.as_slice());
+        json.add("\"");
+    }
+    json.add_text("],\"text\":\"", words_of(diagnostic.code));
+    json.add("\"}");
 }
 
 /// The object of a build: `kind`, `checked` (how many units were checked), `units` (of how many files), `image` (whether there is one), `ms`.
@@ -50,14 +53,17 @@ pub fn build_line(
     has_image: bool,
     millis: usize,
 ) -> Result<String, AllocError> {
-    let value = json!(in alloc; {
-        "kind": "build",
-        "checked": checked,
-        "units": units,
-        "image": has_image,
-        "ms": millis
-    })?;
-    value.to_string(alloc)
+    let mut json = Json::new(alloc);
+    json.add_number("{\"checked\":", checked);
+    json.add(if has_image {
+        ",\"image\":true"
+    } else {
+        ",\"image\":false"
+    });
+    json.add_number(",\"kind\":\"build\",\"ms\":", millis);
+    json.add_number(",\"units\":", units);
+    json.add("}");
+    json.into_text()
 }
 
 /// The object of a run's end: `kind`, `outcome`, and of an exception `exception`, `file` and `line` (0 where it isn't known).
@@ -66,19 +72,19 @@ pub fn build_line(
 ///
 /// If out of memory.
 pub fn end_line(alloc: Global, folders: &Files, end: &RunEnd) -> Result<String, AllocError> {
-    let outcome = match end {
-        RunEnd::Finished => "finished",
-        RunEnd::Idle => "idle",
-        RunEnd::Spent => "spent",
-        RunEnd::Stuck => "stuck",
+    let mut json = Json::new(alloc);
+    match end {
+        RunEnd::Finished => json.add("{\"kind\":\"end\",\"outcome\":\"finished\"}"),
+        RunEnd::Idle => json.add("{\"kind\":\"end\",\"outcome\":\"idle\"}"),
+        RunEnd::Spent => json.add("{\"kind\":\"end\",\"outcome\":\"spent\"}"),
+        RunEnd::Stuck => json.add("{\"kind\":\"end\",\"outcome\":\"stuck\"}"),
         RunEnd::Raised {
             exception,
             unit,
             line,
-        } => return raised_line(alloc, folders, *exception, unit, *line),
-    };
-    let value = json!(in alloc; {"kind": "end", "outcome": outcome})?;
-    value.to_string(alloc)
+        } => return raised_line(alloc, folders, *exception, unit, line.unwrap_or(0)),
+    }
+    json.into_text()
 }
 
 fn raised_line(
@@ -86,71 +92,23 @@ fn raised_line(
     folders: &Files,
     exception: Exception,
     unit: &UnitKey,
-    line: Option<u32>,
+    line: u32,
 ) -> Result<String, AllocError> {
     let Ok(name) = file_name_of(alloc, unit) else {
         return Err(AllocError);
     };
-    let file = path_of(alloc, folders, name.as_slice())?;
-    let word = match exception {
-        Exception::Constraint => "constraint_error",
-        Exception::Program => "program_error",
-        Exception::Storage => "storage_error",
-    };
-    let value = json!(in alloc; {
-        "kind": "end",
-        "outcome": "raised",
-        "exception": word,
-        "file": &file,
-        "line": line.unwrap_or(0)
-    })?;
-    value.to_string(alloc)
+    let mut json = Json::new(alloc);
+    add_raised(exception, folders, name.as_slice(), line, &mut json);
+    json.into_text()
 }
 
-/// FOLDER/FILE; without the folder where that is the present one.
-pub(crate) fn path_of(alloc: Global, folders: &Files, file: &[u8]) -> Result<String, AllocError> {
-    let name = String::from_utf8_lossy(alloc, file)?;
-    match folders.get(file) {
-        Some(folder) if folder == b"/".as_slice() => format!(in alloc; "/{name}"),
-        Some(folder) if folder != b".".as_slice() => {
-            let folder = String::from_utf8_lossy(alloc, folder)?;
-            format!(in alloc; "{folder}/{name}")
-        }
-        _ => Ok(name),
-    }
-}
-
-/// A code as it is printed, E402.
-pub(crate) fn code_of(alloc: Global, code: u16) -> Result<String, AllocError> {
-    format!(in alloc; "E{code:03}")
-}
-
-/// What the rule says, without its code.
-pub(crate) fn text_of(alloc: Global, code: u16) -> Result<String, AllocError> {
-    let message = message_of(code);
-    String::from_utf8_lossy(alloc, message.get(5..).unwrap_or(message))
-}
-
-fn notes_of(alloc: Global, noted: &Noted<'_>) -> Result<Vec<Value>, AllocError> {
-    let mut notes = Vec::new(alloc);
-    for note in noted.notes.iter() {
-        let text = String::from_utf8_lossy(alloc, note.as_slice())?;
-        notes.push(Value::String(text))?;
-    }
-    Ok(notes)
-}
-
-/// The column behind the lexeme at the place of a diagnostic; the place's own where none is there.
-pub(crate) fn end_col(alloc: Global, texts: &Files, noted: &Noted<'_>) -> Result<u32, AllocError> {
-    let place = noted.diagnostic.place;
-    let text = texts.get(noted.diagnostic.file.as_slice()).unwrap_or(&[]);
-    let line = line_at(place.line, text);
-    let before = place.col.saturating_sub(1);
-    let rest = line.get(before as usize..).unwrap_or(&[]);
-    let sketch = Sketch::of(alloc, rest)?;
-    let width = match sketch.lexeme(0) {
-        Some(lexeme) if lexeme.start == 0 => lexeme.end,
-        _ => 0,
-    };
-    Ok(place.col.saturating_add(u32::try_from(width).unwrap_or(0)))
+fn add_raised(exception: Exception, folders: &Files, file: &[u8], line: u32, json: &mut Json) {
+    json.add(match exception {
+        Exception::Constraint => "{\"exception\":\"constraint_error",
+        Exception::Program => "{\"exception\":\"program_error",
+        Exception::Storage => "{\"exception\":\"storage_error",
+    });
+    json.add_path("\",\"file\":\"", folders, file);
+    json.add_number("\",\"kind\":\"end\",\"line\":", line as usize);
+    json.add(",\"outcome\":\"raised\"}");
 }

@@ -7,6 +7,7 @@ mod json;
 mod noted;
 mod sarif;
 mod text;
+mod writing;
 
 pub use causes::{Cause, causes_of};
 pub use counts::{Counts, counts_of};

@@ -1,4 +1,7 @@
 // Diagnostics with their notes.
+ghost use Rattle.std.specs.Prelude.{◌≡◌, ◌↔◌, IfOk, IsTrue, map};
+ghost use Rattle.al_report.specs.Shown.{waits_for_others, shown};
+
 use al_base::{Diagnostic, Files};
 use al_notes::Notes;
 use std::alloc::{AllocError, Global};
@@ -19,7 +22,9 @@ impl<'a> Drop for Noted<'a> {
 }
 
 /// Whether a diagnostic only says that others are to be mended first.
-pub(crate) fn is_dependent(diagnostic: &Diagnostic) -> bool {
+pub(crate) fn is_dependent(diagnostic: &Diagnostic) -> bool
+    ensures { result ≡ waits_for_others diagnostic.now }
+{
     diagnostic.code == 208
 }
 
@@ -35,7 +40,9 @@ pub fn noted_of<'a>(
     found: &'a [Diagnostic],
     lists_all: bool,
     has_notes: bool,
-) -> Result<Vec<Noted<'a>>, AllocError> {
+) -> Result<Vec<Noted<'a>>, AllocError>
+    ensures { IfOk result (λ told. map (λ one. one.diagnostic.now) told.items ≡ shown lists_all found.now) }
+{
     let mut told = Vec::new(alloc);
     let mut notes = Notes::over(alloc, texts);
     for diagnostic in found {

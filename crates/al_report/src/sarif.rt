@@ -1,13 +1,16 @@
 // One document of SARIF 2.1.0.
-use crate::json::{code_of, end_col, path_of, text_of};
 use crate::noted::Noted;
+use crate::writing::{Json, words_of};
 use al_base::Files;
-use serde_json::{Value, json};
 use std::alloc::{AllocError, Global};
 
-const SCHEMA: &str = "https://json.schemastore.org/sarif-2.1.0.json";
+/// What stands before the results.
+const HEAD: &str =
+    "{\"$schema\":\"https://json.schemastore.org/sarif-2.1.0.json\",\"runs\":[{\"columnKind\":\"utf16CodeUnits\",\"results\":[";
 
-const PAGES: &str = "docs/diagnostics.md";
+/// What stands before the place of a result.
+const LOCATION: &str =
+    "{\"level\":\"error\",\"locations\":[{\"physicalLocation\":{\"artifactLocation\":{\"uri\":\"";
 
 /// The document of these diagnostics.
 ///
@@ -20,90 +23,56 @@ pub fn sarif_text(
     texts: &Files,
     told: &[Noted<'_>],
 ) -> Result<String, AllocError> {
-    let mut results = Vec::new(alloc);
-    for noted in told {
-        results.push(result_of(alloc, folders, texts, noted)?)?;
+    let mut json = Json::new(alloc);
+    json.add(HEAD);
+    for (number, noted) in told.iter().enumerate() {
+        json.add(if number == 0 { "" } else { "," });
+        add_result(folders, texts, noted, &mut json);
     }
-    let rules = rules_of(alloc, told)?;
-    let value = json!(in alloc; {
-        "$schema": SCHEMA,
-        "version": "2.1.0",
-        "runs": [{
-            "tool": {"driver": {"name": "adabuild", "rules": rules}},
-            "columnKind": "utf16CodeUnits",
-            "results": results
-        }]
-    })?;
-    value.to_string(alloc)
+    json.add("],\"tool\":{\"driver\":{\"name\":\"adabuild\",\"rules\":[");
+    add_rules(told, &mut json);
+    json.add("]}}}],\"version\":\"2.1.0\"}");
+    json.into_text()
 }
 
-fn result_of(
-    alloc: Global,
-    folders: &Files,
-    texts: &Files,
-    noted: &Noted<'_>,
-) -> Result<Value, AllocError> {
-    let code = code_of(alloc, noted.diagnostic.code)?;
-    let message = message_with_notes(alloc, noted)?;
-    let location = location_of(alloc, folders, texts, noted)?;
-    json!(in alloc; {
-        "ruleId": &code,
-        "level": "error",
-        "message": {"text": &message},
-        "locations": [{"physicalLocation": location}]
-    })
-}
-
-fn location_of(
-    alloc: Global,
-    folders: &Files,
-    texts: &Files,
-    noted: &Noted<'_>,
-) -> Result<Value, AllocError> {
-    let file = path_of(alloc, folders, noted.diagnostic.file.as_slice())?;
-    let place = noted.diagnostic.place;
-    let end = end_col(alloc, texts, noted)?;
-    json!(in alloc; {
-        "artifactLocation": {"uri": &file},
-        "region": {
-            "startLine": place.line,
-            "startColumn": place.col,
-            "endColumn": end
-        }
-    })
-}
-
-// What the rule says, and each note on a line of its own.
-fn message_with_notes(alloc: Global, noted: &Noted<'_>) -> Result<String, AllocError> {
-    let mut text = text_of(alloc, noted.diagnostic.code)?;
+fn add_result(folders: &Files, texts: &Files, noted: &Noted<'_>, json: &mut Json) {
+    let diagnostic = noted.diagnostic;
+    json.add_uri(LOCATION, folders, diagnostic.file.as_slice());
+    json.add_end_col("\"},\"region\":{\"endColumn\":", texts, noted);
+    json.add_number(",\"startColumn\":", diagnostic.place.col as usize);
+    json.add_number(",\"startLine\":", diagnostic.place.line as usize);
+    json.add_text("}}}],\"message\":{\"text\":\"", words_of(diagnostic.code));
     for note in noted.notes.iter() {
-        let line = String::from_utf8_lossy(alloc, note.as_slice())?;
-        text.push_str("\n")?;
-        text.push_str(line.as_str())?;
+        json.add_text("\\n", note.as_slice());
     }
-    Ok(text)
+    json.add_code("\"},\"ruleId\":\"", diagnostic.code);
+    json.add("\"}");
 }
 
-// The rules of the codes that occur, each once.
-fn rules_of(alloc: Global, told: &[Noted<'_>]) -> Result<Vec<Value>, AllocError> {
-    let mut rules = Vec::new(alloc);
-    let mut codes: Vec<u16> = Vec::new(alloc);
-    for noted in told {
+// Adds the rules of the codes that occur, each once.
+fn add_rules(told: &[Noted<'_>], json: &mut Json) {
+    for (number, noted) in told.iter().enumerate() {
         let code = noted.diagnostic.code;
-        if !codes.contains(&code) {
-            codes.push(code)?;
-            rules.push(rule_of(alloc, code)?)?;
+        if number == first_with(told, code) {
+            json.add(if number == 0 { "" } else { "," });
+            add_rule(code, json);
         }
     }
-    Ok(rules)
 }
 
-fn rule_of(alloc: Global, code: u16) -> Result<Value, AllocError> {
-    let id = code_of(alloc, code)?;
-    let text = text_of(alloc, code)?;
-    json!(in alloc; {
-        "id": &id,
-        "shortDescription": {"text": &text},
-        "help": {"text": PAGES}
-    })
+// The number of the first diagnostic with a code.
+fn first_with(told: &[Noted<'_>], code: u16) -> usize {
+    for (number, noted) in told.iter().enumerate() {
+        if noted.diagnostic.code == code {
+            return number;
+        }
+    }
+    told.len()
+}
+
+fn add_rule(code: u16, json: &mut Json) {
+    json.add_code("{\"help\":{\"text\":\"adabuild --explain ", code);
+    json.add_code("\"},\"id\":\"", code);
+    json.add_text("\",\"shortDescription\":{\"text\":\"", words_of(code));
+    json.add("\"}}");
 }

@@ -1,5 +1,5 @@
 // Constructs of Ada 2012 that aren't in this subset, and what is written instead.
-use std::str;
+use std::alloc::AllocError;
 
 /// A construct of Ada that the subset doesn't have.
 #[derive(Clone, Copy)]
@@ -30,10 +30,12 @@ limited-types|a limited type|leave the word limited out; a private type is enoug
 derived-types|a derived type|type T is range A .. B; or a subtype of the parent
 modular-types|a modular type|type T is range 0 .. N - 1; and mod after each operation
 floating-point|a floating-point type or real literal|scale to integers, as thousandths in a type with a range
+real-literals|a real literal|scale to integers, as thousandths in a type with a range
 fixed-point|a fixed-point type|scale to integers, as thousandths in a type with a range
 component-defaults|a default value of a component|give the value where an object is declared: X : T := (0, 0);
 parameter-defaults|a default value of a parameter|pass each parameter in the call
 entry-parameters|an entry with parameters|a simple entry, and a protected procedure or function that takes or gives the values
+entry-families|an entry family|an entry of a protected object of its own for each index
 named-parameters|named parameter association|pass the parameters by position
 named-aggregates|an aggregate with names|list the components by position: (1, 2); an array may have (others => 0)
 array-aggregates|an aggregate with others after values|list all values, or (others => 0), and assign the rest
@@ -78,7 +80,7 @@ pragmas-inside|a pragma among statements or operations|leave it out; a check can
 interrupts|an interrupt handler|a task, and a protected object
 text-io-instances|an instance of a package of Ada.Text_IO|Ada.Text_IO.Put (T'Image (X)), for a value of the type T; nothing is read
 representation|a representation clause|leave it out; the layout is the compiler's
-attribute-access|the attribute Access|pass the object itself
+attribute-access|the attribute Access|name the object or the subprogram itself; there are no access types
 incomplete-types|an incomplete type|declare the type whole; there are no access types
 membership-choices|a membership test with several choices|X in A .. B or else X = C
 limited-with|a limited or private with clause|a with clause, and packages that don't depend on each other
@@ -99,21 +101,23 @@ null-aggregates|an aggregate (null record)|an object without a value: a null rec
 nested-aggregates|an aggregate inside another one, as an operand, an argument or a result|assign it alone, or qualify it with its type and an apostrophe
 ";
 
-// The construct that a line tells.
+// The construct that a line has.
 fn construct_in(line: &'static str) -> Option<Construct> {
     let (key, rest) = line.split_once('|')?;
     let (name, instead) = rest.split_once('|')?;
     Some(Construct { key, name, instead })
 }
 
-/// The construct of a key.
-pub fn construct_of(key: &str) -> Option<Construct> {
+/// Reads the table of constructs.
+///
+/// # Errors
+///
+/// `AllocError` if memory runs out.
+pub fn add_constructs(constructs: &mut Vec<Construct>) -> Result<(), AllocError> {
     for line in CONSTRUCTS.split('\n') {
         if let Some(construct) = construct_in(line) {
-            if construct.key == key {
-                return Some(construct);
-            }
+            constructs.push(construct)?;
         }
     }
-    None
+    Ok(())
 }

@@ -1,20 +1,9 @@
 // Which construct is at a syntax error.
-use crate::constructs::{Construct, construct_of};
-use crate::patterns::{Inside, Pattern, Patterns};
+use crate::patterns::{Inside, Pattern};
 use al_sketch::{LexemeKind, ScopeKind, Sketch};
 
-/// The construct outside the subset that a source has at the lexeme of a syntax error, if one is known.
-pub fn construct_at(patterns: &Patterns, sketch: &Sketch, fault: usize) -> Option<Construct> {
-    construct_of(told_by(patterns.constructs.as_slice(), sketch, fault)?)
-}
-
-/// What isn't Ada at the lexeme of a syntax error, if that is known.
-pub fn mistake_at(patterns: &Patterns, sketch: &Sketch, fault: usize) -> Option<&'static str> {
-    told_by(patterns.mistakes.as_slice(), sketch, fault)
-}
-
-// What the first pattern tells that fits.
-fn told_by(patterns: &[Pattern], sketch: &Sketch, fault: usize) -> Option<&'static str> {
+/// What the first pattern tells that fits at the lexeme of a syntax error.
+pub fn told_by(patterns: &[Pattern], sketch: &Sketch, fault: usize) -> Option<&'static str> {
     if fault >= sketch.len() {
         return None;
     }
@@ -30,19 +19,29 @@ fn told_by(patterns: &[Pattern], sketch: &Sketch, fault: usize) -> Option<&'stat
 
 // Whether the lexemes round the error are those.
 fn fits(pattern: &Pattern, sketch: &Sketch, fault: usize) -> bool {
-    let mut at = fault;
-    for word in pattern.at.split_whitespace() {
-        if !is_word(sketch, at, word) {
-            return false;
-        }
-        at = at.saturating_add(1);
-    }
-    let count = pattern.before.split_whitespace().count();
-    if count > fault {
+    if !may_begin(pattern.at, sketch.word(fault)) || !are_words(sketch, fault, pattern.at) {
         return false;
     }
-    let mut at = fault.saturating_sub(count);
-    for word in pattern.before.split_whitespace() {
+    match fault.checked_sub(pattern.before.split_whitespace().count()) {
+        Some(first) => are_words(sketch, first, pattern.before),
+        None => false,
+    }
+}
+
+// Whether a lexeme may be the first of these words, by its first letter; the words for kinds of lexemes are in capitals.
+fn may_begin(words: &str, lexeme: &[u8]) -> bool {
+    match (words.as_bytes().first(), lexeme.first()) {
+        (Some(one), Some(other)) => {
+            one.is_ascii_uppercase() || *one == other.to_ascii_lowercase()
+        }
+        _ => words.is_empty(),
+    }
+}
+
+// Whether the lexemes from one on are these words.
+fn are_words(sketch: &Sketch, first: usize, words: &str) -> bool {
+    let mut at = first;
+    for word in words.split_whitespace() {
         if !is_word(sketch, at, word) {
             return false;
         }
@@ -54,6 +53,7 @@ fn fits(pattern: &Pattern, sketch: &Sketch, fault: usize) -> bool {
 fn is_word(sketch: &Sketch, index: usize, word: &str) -> bool {
     match word {
         "ID" => sketch.is_identifier(index),
+        "LONG" => sketch.is_identifier(index) && sketch.word(index).len() > 1,
         "NUM" => sketch.kind(index) == Some(LexemeKind::Number),
         "STR" => sketch.kind(index) == Some(LexemeKind::Text),
         "BAR" => sketch.is(index, b"|"),
@@ -101,6 +101,7 @@ fn is_inside(inside: Inside, parenthesis: Option<Inside>, sketch: &Sketch, fault
         Inside::Record => kind == ScopeKind::Record && parenthesis.is_none(),
         Inside::Protected => kind == ScopeKind::Protected && parenthesis.is_none(),
         Inside::ProtectedBody => is_protected_body(sketch, number) && parenthesis.is_none(),
+        Inside::Package => is_in_package(sketch, number),
         Inside::Statements => sketch.is_among_statements(fault),
         Inside::Declarations => {
             parenthesis.is_none()
@@ -110,6 +111,17 @@ fn is_inside(inside: Inside, parenthesis: Option<Inside>, sketch: &Sketch, fault
         Inside::Formals | Inside::Call | Inside::Aggregate | Inside::Pragma | Inside::Index => {
             parenthesis == Some(inside)
         }
+    }
+}
+
+// Whether a scope is right in the declaration of a package.
+fn is_in_package(sketch: &Sketch, number: usize) -> bool {
+    match sketch.scope(number) {
+        Some(scope) => match sketch.scope(scope.parent) {
+            Some(parent) => parent.kind == ScopeKind::Package,
+            None => false,
+        },
+        None => false,
     }
 }
 

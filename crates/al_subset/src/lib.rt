@@ -4,9 +4,9 @@
 mod constructs;
 mod fitting;
 mod patterns;
+mod subset;
 mod units;
 
-pub use constructs::{CONSTRUCTS, Construct, construct_of};
-pub use fitting::{construct_at, mistake_at};
-pub use patterns::{Inside, MISTAKES, PATTERNS, Pattern, Patterns};
-pub use units::{NAMES, UNITS, Unknown, predefined_name, predefined_unit};
+pub use constructs::Construct;
+pub use subset::Subset;
+pub use units::Unknown;

@@ -1,5 +1,5 @@
 // By which lexemes round a syntax error a construct is known.
-use std::alloc::{AllocError, Global};
+use std::alloc::AllocError;
 
 /// What is round a syntax error.
 #[derive(Clone, Copy, PartialEq, Eq)]
@@ -10,6 +10,8 @@ pub enum Inside {
     Record,
     Protected,
     ProtectedBody,
+    /// In the declaration of a package.
+    Package,
     Statements,
     /// Among declarations, outside records and protected objects.
     Declarations,
@@ -25,8 +27,8 @@ pub enum Inside {
     Index,
 }
 
-/// Lexemes round an error, with one space between them: `ID`, `NUM` and `STR` are an identifier, a number and a string, whatever it is, and
-/// `BAR` is `|`.
+/// Lexemes round an error, with one space between them: `ID`, `NUM` and `STR` are an identifier, a number and a string, whatever it is, `LONG`
+/// is an identifier of several letters, and `BAR` is `|`.
 #[derive(Clone, Copy)]
 pub struct Pattern {
     pub inside: Inside,
@@ -81,6 +83,10 @@ Anywhere||digits|floating-point
 Anywhere||delta|fixed-point
 Record||:=|component-defaults
 Formals||:=|parameter-defaults
+Anywhere|entry ID|( ID )|entry-families
+Anywhere|entry ID|( for|entry-families
+Anywhere|entry ID|( ID ..|entry-families
+Anywhere|entry ID|( NUM|entry-families
 Anywhere|entry ID|(|entry-parameters
 Pragma||=>|pragma-arguments
 Call||=>|named-parameters
@@ -142,6 +148,7 @@ Pragma|||pragma-arguments
 Statements||pragma|pragmas-inside
 Protected||pragma priority|pragma-priority
 Protected||pragma attach_handler|interrupts
+Protected||pragma interrupt_priority|interrupts
 Protected||pragma interrupt_handler|interrupts
 Protected||pragma|pragmas-inside
 ProtectedBody||pragma|pragmas-inside
@@ -153,9 +160,16 @@ Record||at|record-representation
 Anywhere|function ID return ID is|(|expression-functions
 Anywhere|is|(|expression-functions
 Anywhere|is|null|null-procedures
+Anywhere||is (|expression-functions
+Anywhere||is null|null-procedures
+Anywhere||is abstract|abstract
 Anywhere||limited with|limited-with
 Anywhere|private|with|limited-with
 Anywhere|with|procedure|formal-subprograms
+Anywhere||with attach_handler|interrupts
+Anywhere||with interrupt_handler|interrupts
+Anywhere||with interrupt_priority|interrupts
+Anywhere|with interrupt_priority|;|interrupts
 Anywhere|subtype ID is ID|with|aspects
 Anywhere||with|aspects
 Anywhere|task ID with ID|;|aspects
@@ -230,11 +244,23 @@ Statements|ID|STR|arguments are in parentheses
 Anywhere|var||an object is declared by NAME : TYPE := VALUE;
 Anywhere|let||an object is declared by NAME : TYPE := VALUE;
 Anywhere|const||a constant is declared by NAME : constant TYPE := VALUE;
+Statements|ID|= +|there is no =+: write X := X + ..
+Statements|ID|= -|there is no =-: write X := X - ..
 Statements|ID|=|an assignment is written :=
 Statements|)|=|an assignment is written :=
 Statements|ID|+ =|there is no +=: write X := X + ..
 Statements|ID|- =|there is no -=: write X := X - ..
 Anywhere|=|=|equality is written =
+Statements||<>|not equal is written /=
+Anywhere|type ID is|NUM|an integer type is written: type T is range 1 .. 10
+Anywhere||/ /|a comment begins with --, and ends with its line
+Anywhere||/ *|a comment begins with --, and ends with its line
+Anywhere||' LONG|a string is in double quotes: \"..\"
+Package||is begin|a package's declaration has no bodies: they are in its body, package body NAME is, in a file of their own
+Package||is ID|a package's declaration has no bodies: they are in its body, package body NAME is, in a file of their own
+Package||is procedure|a package's declaration has no bodies: they are in its body, package body NAME is, in a file of their own
+Package||is function|a package's declaration has no bodies: they are in its body, package body NAME is, in a file of their own
+Package||is type|a package's declaration has no bodies: they are in its body, package body NAME is, in a file of their own
 Anywhere|&|&|a condition joins by and then
 Anywhere|BAR|BAR|a condition joins by or else
 Anywhere|elseif||the word is elsif
@@ -247,40 +273,12 @@ Anywhere||xor|operators of two kinds need parentheses (ARM 4.4)
 Anywhere|**|-|a negative exponent isn't there for integers
 ";
 
-/// The patterns of [`MISTAKES`] and [`PATTERNS`], read.
-pub struct Patterns {
-    pub mistakes: Vec<Pattern>,
-    pub constructs: Vec<Pattern>,
-}
-
-impl Drop for Patterns {
-    fn drop(self) {
-        let Patterns {
-            mistakes: _,
-            constructs: _,
-        } = self;
-    }
-}
-
-impl Patterns {
-    /// Both tables, read.
-    ///
-    /// # Errors
-    ///
-    /// `AllocError` if memory runs out.
-    pub fn new(alloc: Global) -> Result<Patterns, AllocError> {
-        let mut patterns = Patterns {
-            mistakes: Vec::new(alloc),
-            constructs: Vec::new(alloc),
-        };
-        read_table(MISTAKES, &mut patterns.mistakes)?;
-        read_table(PATTERNS, &mut patterns.constructs)?;
-        Ok(patterns)
-    }
-}
-
-// Adds the patterns of a table.
-fn read_table(table: &'static str, patterns: &mut Vec<Pattern>) -> Result<(), AllocError> {
+/// Adds the patterns of a table.
+///
+/// # Errors
+///
+/// `AllocError` if memory runs out.
+pub fn add_patterns(table: &'static str, patterns: &mut Vec<Pattern>) -> Result<(), AllocError> {
     for line in table.split('\n') {
         if let Some(pattern) = pattern_in(line) {
             patterns.push(pattern)?;
@@ -308,6 +306,7 @@ fn inside_named(word: &str) -> Inside {
         "Record" => Inside::Record,
         "Protected" => Inside::Protected,
         "ProtectedBody" => Inside::ProtectedBody,
+        "Package" => Inside::Package,
         "Statements" => Inside::Statements,
         "Declarations" => Inside::Declarations,
         "Formals" => Inside::Formals,

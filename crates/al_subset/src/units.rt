@@ -1,63 +1,63 @@
 // Names of Ada and of Standard that this subset doesn't have.
+use std::alloc::AllocError;
 
 /// A name that Ada has and the subset doesn't.
 #[derive(Clone, Copy)]
 pub struct Unknown {
-    /// In lower case.
     pub name: &'static str,
     /// What a program does instead.
     pub instead: &'static str,
 }
 
 /// Names, a line each: the name, what is written instead.
-pub const NAMES: &str = "string|string literals and 'Image, joined by &, in Put and Put_Line
-wide_string|string literals and 'Image, joined by &, in Put and Put_Line
-wide_wide_string|string literals and 'Image, joined by &, in Put and Put_Line
-ascii|string literals and 'Image, joined by &, in Put and Put_Line
-character|string literals of one character
-wide_character|string literals of one character
-wide_wide_character|string literals of one character
-float|integers, scaled: thousandths in a type with a range
-long_float|integers, scaled: thousandths in a type with a range
-short_float|integers, scaled: thousandths in a type with a range
-long_long_float|integers, scaled: thousandths in a type with a range
-duration|Time_Span of Ada.Real_Time
-long_integer|type T is range A .. B; of up to 64 bits
-long_long_integer|type T is range A .. B; of up to 64 bits
-short_integer|type T is range A .. B; of up to 64 bits
-short_short_integer|type T is range A .. B; of up to 64 bits
-constraint_error|a test before what would raise; an exception ends the run
-program_error|a test before what would raise; an exception ends the run
-storage_error|a test before what would raise; an exception ends the run
-tasking_error|a test before what would raise; an exception ends the run
-numeric_error|a test before what would raise; an exception ends the run
-get_line|Put, Put_Line and New_Line without parameters but the string
-get|Put, Put_Line and New_Line without parameters but the string
-new_page|Put, Put_Line and New_Line without parameters but the string
-set_col|Put, Put_Line and New_Line without parameters but the string
-set_output|Put, Put_Line and New_Line without parameters but the string
-file_type|Put, Put_Line and New_Line without parameters but the string
-skip_line|Put, Put_Line and New_Line without parameters but the string
-open|Put, Put_Line and New_Line without parameters but the string
-create|Put, Put_Line and New_Line without parameters but the string
-close|Put, Put_Line and New_Line without parameters but the string
-end_of_file|Put, Put_Line and New_Line without parameters but the string
-integer_io|Put, Put_Line and New_Line without parameters but the string
-enumeration_io|Put, Put_Line and New_Line without parameters but the string
-flush|Put, Put_Line and New_Line without parameters but the string
-seconds|Time, Time_Span, Clock, Milliseconds, and Time + Time_Span
-microseconds|Time, Time_Span, Clock, Milliseconds, and Time + Time_Span
-nanoseconds|Time, Time_Span, Clock, Milliseconds, and Time + Time_Span
-to_time_span|Time, Time_Span, Clock, Milliseconds, and Time + Time_Span
-to_duration|Time, Time_Span, Clock, Milliseconds, and Time + Time_Span
-time_first|Time, Time_Span, Clock, Milliseconds, and Time + Time_Span
-time_span_zero|Time, Time_Span, Clock, Milliseconds, and Time + Time_Span
-time_span_unit|Time, Time_Span, Clock, Milliseconds, and Time + Time_Span
-minutes|Time, Time_Span, Clock, Milliseconds, and Time + Time_Span
-tick|Time, Time_Span, Clock, Milliseconds, and Time + Time_Span
-split|Time, Time_Span, Clock, Milliseconds, and Time + Time_Span
-time_of|Time, Time_Span, Clock, Milliseconds, and Time + Time_Span
-time_last|Time, Time_Span, Clock, Milliseconds, and Time + Time_Span
+pub const NAMES: &str = "String|string literals and 'Image, joined by &, in Put and Put_Line
+Wide_String|string literals and 'Image, joined by &, in Put and Put_Line
+Wide_Wide_String|string literals and 'Image, joined by &, in Put and Put_Line
+ASCII|string literals and 'Image, joined by &, in Put and Put_Line
+Character|string literals of one character
+Wide_Character|string literals of one character
+Wide_Wide_Character|string literals of one character
+Float|integers, scaled: thousandths in a type with a range
+Long_Float|integers, scaled: thousandths in a type with a range
+Short_Float|integers, scaled: thousandths in a type with a range
+Long_Long_Float|integers, scaled: thousandths in a type with a range
+Duration|Time_Span of Ada.Real_Time
+Long_Integer|type T is range A .. B; of up to 64 bits
+Long_Long_Integer|type T is range A .. B; of up to 64 bits
+Short_Integer|type T is range A .. B; of up to 64 bits
+Short_Short_Integer|type T is range A .. B; of up to 64 bits
+Constraint_Error|a test before what would raise; an exception ends the run
+Program_Error|a test before what would raise; an exception ends the run
+Storage_Error|a test before what would raise; an exception ends the run
+Tasking_Error|a test before what would raise; an exception ends the run
+Numeric_Error|a test before what would raise; an exception ends the run
+Get_Line|Put, Put_Line and New_Line without parameters but the string
+Get|Put, Put_Line and New_Line without parameters but the string
+New_Page|Put, Put_Line and New_Line without parameters but the string
+Set_Col|Put, Put_Line and New_Line without parameters but the string
+Set_Output|Put, Put_Line and New_Line without parameters but the string
+File_Type|Put, Put_Line and New_Line without parameters but the string
+Skip_Line|Put, Put_Line and New_Line without parameters but the string
+Open|Put, Put_Line and New_Line without parameters but the string
+Create|Put, Put_Line and New_Line without parameters but the string
+Close|Put, Put_Line and New_Line without parameters but the string
+End_Of_File|Put, Put_Line and New_Line without parameters but the string
+Integer_IO|Put, Put_Line and New_Line without parameters but the string
+Enumeration_IO|Put, Put_Line and New_Line without parameters but the string
+Flush|Put, Put_Line and New_Line without parameters but the string
+Seconds|Time, Time_Span, Clock, Milliseconds, and Time + Time_Span
+Microseconds|Time, Time_Span, Clock, Milliseconds, and Time + Time_Span
+Nanoseconds|Time, Time_Span, Clock, Milliseconds, and Time + Time_Span
+To_Time_Span|Time, Time_Span, Clock, Milliseconds, and Time + Time_Span
+To_Duration|Time, Time_Span, Clock, Milliseconds, and Time + Time_Span
+Time_First|Time, Time_Span, Clock, Milliseconds, and Time + Time_Span
+Time_Span_Zero|Time, Time_Span, Clock, Milliseconds, and Time + Time_Span
+Time_Span_Unit|Time, Time_Span, Clock, Milliseconds, and Time + Time_Span
+Minutes|Time, Time_Span, Clock, Milliseconds, and Time + Time_Span
+Tick|Time, Time_Span, Clock, Milliseconds, and Time + Time_Span
+Split|Time, Time_Span, Clock, Milliseconds, and Time + Time_Span
+Time_Of|Time, Time_Span, Clock, Milliseconds, and Time + Time_Span
+Time_Last|Time, Time_Span, Clock, Milliseconds, and Time + Time_Span
 ";
 
 /// Library units, in the same form; the units below them too.
@@ -67,6 +67,7 @@ ada.float_text_io|Ada.Text_IO.Put with 'Image of scaled integers
 ada.text_io|Ada.Text_IO itself: Put, Put_Line and New_Line
 ada.command_line|constants in a package of their own
 ada.calendar|Ada.Real_Time
+ada.real_time.timing_events|a task, and delay until
 ada.real_time|Ada.Real_Time itself: Clock, Milliseconds and delay until
 ada.exceptions|nothing: an exception that is raised ends the run, and is printed then
 ada.strings|string literals and 'Image, joined by &
@@ -98,31 +99,35 @@ calendar|Ada.Real_Time
 unchecked_conversion|arithmetic, or a case statement
 ";
 
-// The name that a line tells.
-fn unknown_in(line: &'static str) -> Option<Unknown> {
-    let (name, instead) = line.split_once('|')?;
-    Some(Unknown { name, instead })
+/// Reads a table of names.
+///
+/// # Errors
+///
+/// `AllocError` if memory runs out.
+pub fn add_names(table: &'static str, names: &mut Vec<Unknown>) -> Result<(), AllocError> {
+    for line in table.split('\n') {
+        if let Some((name, instead)) = line.split_once('|') {
+            names.push(Unknown { name, instead })?;
+        }
+    }
+    Ok(())
 }
 
-/// A name of Standard or of a predefined unit that Ada has and the subset doesn't.
-pub fn predefined_name(name: &[u8]) -> Option<Unknown> {
-    for line in NAMES.split('\n') {
-        if let Some(unknown) = unknown_in(line) {
-            if name.eq_ignore_ascii_case(unknown.name.as_bytes()) {
-                return Some(unknown);
-            }
+/// The entry of a name, in any case of letters.
+pub fn named(names: &[Unknown], name: &[u8]) -> Option<Unknown> {
+    for unknown in names {
+        if name.eq_ignore_ascii_case(unknown.name.as_bytes()) {
+            return Some(*unknown);
         }
     }
     None
 }
 
-/// A library unit that Ada has and the subset doesn't: itself, or one above it.
-pub fn predefined_unit(name: &[u8]) -> Option<Unknown> {
-    for line in UNITS.split('\n') {
-        if let Some(unknown) = unknown_in(line) {
-            if is_at_or_below(name, unknown.name.as_bytes()) {
-                return Some(unknown);
-            }
+/// The entry of a unit, or else of one above it.
+pub fn unit_named(units: &[Unknown], name: &[u8]) -> Option<Unknown> {
+    for unknown in units {
+        if is_at_or_below(name, unknown.name.as_bytes()) {
+            return Some(*unknown);
         }
     }
     None
