@@ -508,7 +508,7 @@ def run_watched_lines(program, count):
     with tempfile.TemporaryDirectory() as folder:
         put(pathlib.Path(folder) / "hello.adb", HELLO)
         built, again = b"checked 1 of 1 units, image made, 0 ms\n", b"checked 0 of 1 units, image as before, 0 ms\n"
-        words = b"the words are run, order, obsolete and quit, and an empty line builds\n"
+        words = b"the words are run, order, checked, why UNIT, obsolete and quit, and an empty line builds\n"
         for given, output, told in (
             (b"obsolete\norder\n", b"body of hello\n", b"no unit is obsolete\n" + again),
             (b"\xff\xfe\n\0\nrun\n", b"hi\n", words * 2 + again),

@@ -3,8 +3,11 @@ ghost use Rattle.std.specs.Prelude.{◌≡◌, IfOk};
 ghost use Rattle.al_session_served.specs.Library.{empty};
 ghost use Rattle.al_session.specs.Meanings.{library_meaning};
 
-use al_base::{Name, NoMemory, Refusal, UnitKey};
-use al_folder_served::FolderLibrary;
+use crate::why::{Of, is_among, reason_among, why_words};
+use al_base::{Files, Name, NoMemory, Refusal, UnitKey};
+use al_engine::ReadFiles;
+use al_engine_files::AdaFiles;
+use al_folder_served::{FolderLibrary, Reasons, reasons_of_items};
 use al_link_image::Image;
 use al_query_outcome::UnitCheck;
 use al_session::{Engine, new_engine};
@@ -88,8 +91,34 @@ impl<C: UnitCheck> UnitLibrary for AdaLibrary<C> {
 }
 
 impl<C: UnitCheck> FolderLibrary for AdaLibrary<C> {
+    ghost use Rattle.al_unit.specs.Libraries.{library_of};
+    ghost use Rattle.al_session.specs.EngineMeanings.{state_of};
+    ghost use Rattle.std.specs.Prelude.{Option};
+    ghost use Rattle.al_base.specs.Files.{Texts};
+    ghost use Rattle.al_engine.specs.States.{Built, Held, last_checked};
+    ghost use Rattle.al_engine_files.specs.declared.units.PredefinedUnits.{PredefinedUnits};
+    ghost use Rattle.al_session.specs.Meanings.{library_meaning};
+    ghost use Rattle.adabuild.specs.Why.{IsWhy};
+    ghost use Rattle.al_folder_served.specs.Reasons.{AreReasonsOf};
+
+    ghost are_checked = { λ l units. (files : Texts) × (built : Option Built) × (state_of files built ≡ l.engine) × (units ≡ last_checked built) };
+
+    ghost is_why = { λ l unit told. (held : Held C PredefinedUnits) × IsWhy (library_meaning C.meaning C.Text.header).units_of l.engine held unit told };
+
+    ghost are_reasons = { λ texts items reasons. AreReasonsOf (library_of texts) items reasons };
+
     fn last_checked(&self) -> &[UnitKey] {
         self.engine.engine().last_checked()
+    }
+
+    fn why(&self, alloc: Global, unit: &UnitKey) -> Result<Option<Vec<u8>>, NoMemory> {
+        let engine = self.engine.engine();
+        let of = Of {
+            reason: reason_among(engine.last_checked(), engine.last_reasons(), unit),
+            look_ups: engine.look_ups(unit),
+            is_there: is_among(&self.engine.units()?, unit),
+        };
+        why_words(alloc, of)
     }
 
     fn patched(&self) -> usize {
@@ -101,5 +130,17 @@ impl<C: UnitCheck> FolderLibrary for AdaLibrary<C> {
             Ok(program) => Some(program.image()),
             Err(_) => None,
         }
+    }
+
+    fn reasons(
+        &self,
+        alloc: Global,
+        texts: &Files,
+        items: &[UnitKey],
+    ) -> Result<Vec<Reasons>, NoMemory> {
+        let read = AdaFiles::of(alloc, texts)?;
+        let reasons = reasons_of_items(alloc, read.sources(), items);
+        drop(read);
+        reasons
     }
 }

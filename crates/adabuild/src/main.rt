@@ -1,7 +1,7 @@
 //! The program `adabuild` builds and runs folders of Ada sources.
 //!
-//! The work is done by `al_folder_served`, over a library of Ada units, the machine's disk and its two outputs. `words`, `options` and `looks` read
-//! the command line; `host` is the machine, `ada_library` the library, and `observing` traces, profiles and listings.
+//! The work is done by `al_folder_served`, over a library of Ada units (`ada_library`, `why`), the machine's disk and its two outputs. `al_folder_words` reads
+//! the command line; `al_folder_machine` has the machine, and traces, profiles and listings.
 //!
 //! The exit status is 0 if all was done, 1 if there is no program, 2 if the command line is wrong, 3 if an exception ended the run.
 #![tactic(auto)]
@@ -9,25 +9,19 @@
 ghost use Rattle.std.specs.Prelude.{◌≤◌, ◌<◌};
 
 mod ada_library;
-mod host;
-mod looks;
-mod observing;
-mod options;
-mod words;
+mod why;
 
 use crate::ada_library::new_library;
-use crate::host::{Host, Lines};
-use crate::looks::Looks;
-use crate::observing::Observer;
-use crate::words::{Asked, HELP, USAGE, VERSION, read_words};
 use al_base::Name;
 use al_check::ada_check;
 use al_explain::{Page, page_text, pages};
 use al_folder::{Ending, exit_code};
+use al_folder_machine::{Host, Lines, Observer};
 use al_folder_served::{
     Disk, Failure, LineSource, LoadRequest, Request, Run, Screen, Told, build_once, load,
     take_project, watch, worse_of,
 };
+use al_folder_words::{Asked, BuildAsked, HELP, Looks, USAGE, VERSION, read_words};
 use al_session_stream::{Counted, Sink};
 use std::alloc::Global;
 use std::io;
@@ -95,7 +89,7 @@ fn outcome_of<R: Env + Files + Input + Clock + AllocGlobal + Clone + Drop, O: Si
         return Err(Failure::Clock);
     };
     match read_words(rt.alloc(), &host, words.as_slice()) {
-        Ok(asked) => do_asked(rt, &mut host, screen, asked),
+        Ok(mut asked) => do_asked(rt, &mut host, screen, &mut asked),
         Err(failure) => Err(failure),
     }
 }
@@ -105,14 +99,14 @@ fn do_asked<R: Files + Input + AllocGlobal, D: Disk, O: Sink, E: Sink>(
     rt: &R,
     disk: &mut D,
     screen: &mut Screen<O, E>,
-    asked: Asked<'_>,
+    asked: &mut Asked<'_>,
 ) -> Result<Ending, Failure> {
     match asked {
         Asked::Help => say(screen, HELP),
         Asked::Version => say(screen, VERSION),
-        Asked::Explain(code) => explain(rt.alloc(), screen, code),
-        Asked::Load(of, looks) => load_asked(rt, disk, screen, of, looks),
-        Asked::Build(mut request, looks) => build_asked(rt, disk, screen, &mut request, looks),
+        Asked::Explain(code) => explain(rt.alloc(), screen, *code),
+        Asked::Load(load) => load_asked(rt, disk, screen, load.request, load.looks),
+        Asked::Build(build) => build_asked(rt, disk, screen, build),
         Asked::Wrong(line) => usage(screen, line.as_bytes()),
     }
 }
@@ -137,19 +131,18 @@ fn build_asked<R: Files + Input + AllocGlobal, D: Disk, O: Sink, E: Sink>(
     rt: &R,
     disk: &mut D,
     screen: &mut Screen<O, E>,
-    request: &mut Request<'_>,
-    looks: Looks<'_>,
+    asked: &mut BuildAsked<'_>,
 ) -> Result<Ending, Failure> {
     let alloc = rt.alloc();
-    screen.form = request.form;
-    if let Some(file) = request.project {
-        if !take_project(alloc, disk, screen, file, request)? {
+    screen.form = asked.request.form;
+    if let Some(file) = asked.request.project {
+        if !take_project(alloc, disk, screen, file, &mut asked.request)? {
             return Ok(Ending::NotBuilt);
         }
     }
     let mut input = Lines::new(rt.reader());
-    let mut run = Observer::new(rt, looks, request.pace.tick, true);
-    match build(alloc, disk, screen, &mut run, request, &mut input) {
+    let mut run = Observer::new(rt, asked.looks, asked.request.pace.tick, true);
+    match build(alloc, disk, screen, &mut run, &asked.request, &mut input) {
         Ok(ending) => Ok(ending_with(run.wrote, ending)),
         Err(failure) => Err(failure),
     }

@@ -1,5 +1,5 @@
 -- A library that is built from the sources that it holds.
-use Rattle.std.proofs.Common.{◌≡◌, ℕ, List, sym, ap, subst, ◌∙◌}
+use Rattle.std.proofs.Common.{ℕ, List, ap, subst, ◌∙◌}
 use Rattle.al_base.specs.Files.{Texts}
 use Rattle.al_session_served.specs.Library.{State, LibraryMeaning, IsBuilt}
 use Rattle.al_folder_served.specs.Sources.{Holds, IsBuiltFrom, with_build}

@@ -4,3 +4,8 @@ pub mod Libraries
 pub mod Voices
 pub mod Built
 pub mod ToldBuilds
+pub mod PartsOfRuns
+pub mod Gathered
+pub mod CheckedTold
+pub mod Uses
+pub mod WhyTold

@@ -1,5 +1,5 @@
 -- What is kept of an output that is passed on, and of one to which nothing is written.
-use Rattle.std.proofs.Common.{◌≡◌, ℕ, Bool, List, [], ◌++◌, Option, Some, None, Result, Ok, Err, IsOk, refl, sym, append-nil}
+use Rattle.std.proofs.Common.{◌≡◌, ℕ, Bool, List, [], Option, Some, None, Result, Ok, Err, IsOk, OnOk, refl, sym, append-nil}
 use Rattle.std.specs.Io.KnownBytes.{Appends}
 use Rattle.al_session_stream.specs.declared.device.Device.{Device}
 use Rattle.al_session_stream.specs.Output.{Adds, sink_moment}
@@ -16,3 +16,8 @@ module _ {W : Type 0} (written : W → Option (List ℕ)) (faults : W → ℕ) (
 
   pub adds_nothing : (w : W) (r : Result (Unit {0}) Device) → Adds written faults waits w w r r []
   adds_nothing w r = λ start before wrote. rw (append-nil before) wrote
+
+-- what holds in any case holds of a result that is Ok
+pub on_ok_from : {A B : Type 0} (r : Result A B) (P : Type 0) → P → OnOk r P
+on_ok_from (Ok x) P p = p
+on_ok_from (Err e) P p = tt

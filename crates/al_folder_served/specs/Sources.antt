@@ -1,7 +1,8 @@
 -- The sources that are read, and the files of a library.
 use Rattle.std.specs.Prelude.{◌≡◌, ℕ, List, Option, Some, None, option_map}
+use Rattle.al_base.specs.Batch.{Key}
 use Rattle.al_base.specs.Files.{Texts}
-use Rattle.al_session_served.specs.Builds.{BuildResult, image_of}
+use Rattle.al_session_served.specs.Builds.{BuildResult, image_of, order_of}
 use Rattle.al_session_served.specs.Library.{State, LibraryMeaning, last_gave}
 
 -- the library's files are those that were read, each with its source, and no others
@@ -31,3 +32,8 @@ gave_last library = option_map last_gave library.built
 abbrev pub image_in : Option (List ℕ × BuildResult) → Option (List ℕ)
 image_in None = None
 image_in (Some gave) = image_of gave.1
+
+-- the order of elaboration of a build, if there was a build and it gave one
+abbrev pub order_in : Option (List ℕ × BuildResult) → Option (List Key)
+order_in None = None
+order_in (Some gave) = order_of gave.1

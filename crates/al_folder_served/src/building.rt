@@ -1,10 +1,15 @@
 // One build, and the uses of its program.
-ghost use Rattle.std.specs.Prelude.{◌≡◌, Bool, false, true, None, IfOk, OnOk, IsSome};
+ghost use Rattle.std.specs.Prelude.{◌≡◌, Bool, false, true, List, None, Some, IfOk, IfSome, OnOk, IsSome, map};
+ghost use Rattle.std.specs.Option.{option_map};
+ghost use Rattle.al_base.specs.Batch.{key_of};
+ghost use Rattle.al_folder_served.specs.declared.reasons.Reasons.{Reasons};
+ghost use Rattle.al_folder_served.specs.Orders.{order_text};
 ghost use Rattle.al_session_stream.specs.Output.{Adds};
 ghost use Rattle.al_session_served.specs.Library.{empty};
 ghost use Rattle.al_folder.specs.declared.status.Ending.TheVariants.{Done, NotBuilt};
-ghost use Rattle.al_folder_served.specs.Sources.{Holds, IsBuilt, IsBuiltFrom, gave_last, image_in};
-ghost use Rattle.al_folder_served.specs.Told.{last_told, worse_of};
+ghost use Rattle.al_folder_served.specs.Sources.{Holds, IsBuilt, IsBuiltFrom, gave_last, image_in, order_in};
+ghost use Rattle.al_folder_served.specs.Told.{EndsSaved, IsSaved, IsSavedIf, PutsOrder, last_told, was_faulty, worse_of};
+ghost use Rattle.al_folder_served.specs.Runs.{RunsBytes, WritesNext};
 ghost use Rattle.al_folder_served.specs.declared.request.Form.TheVariants.{Text};
 
 use crate::bringing::bring;
@@ -20,8 +25,8 @@ use crate::request::{Pace, Request};
 use crate::running::{Run, run_image};
 use crate::screen::Screen;
 use crate::sources::Sources;
-use crate::telling::print_parts;
-use al_base::{Files, Name};
+use crate::telling::put_order;
+use al_base::{Files, Name, UnitKey};
 use al_folder::Ending;
 use al_session_stream::Sink;
 use std::alloc::Global;
@@ -118,19 +123,29 @@ pub fn finish_build<L: FolderLibrary, D: Disk, O: Sink, E: Sink, N: Run>(
     requires { IsBuilt L.meaning (L.state library.now) sources.now.texts }
     ensures without { image_in (gave_last (L.state library.now)) ≡ None → IfOk result (λ ending. ending ≡ NotBuilt) }
     ensures told { image_in (gave_last (L.state library.now)) ≡ None → screen.old.form ≡ Text → request.now.plain ≡ true → Adds E.written E.faults E.waits screen.old.error.sink screen.new.error.sink screen.old.error.so_far screen.new.error.so_far (last_told screen.old.is_open sources.now.folders sources.now.texts true (gave_last (L.state library.now))) }
+    ensures others { image_in (gave_last (L.state library.now)) ≡ None → was_faulty (gave_last (L.state library.now)) ≡ false → Adds E.written E.faults E.waits screen.old.error.sink screen.new.error.sink screen.old.error.so_far screen.new.error.so_far (last_told screen.old.is_open sources.now.folders sources.now.texts request.now.plain (gave_last (L.state library.now))) }
     ensures quiet { image_in (gave_last (L.state library.now)) ≡ None → screen.new.output ≡ screen.old.output }
     ensures done { IsSome (image_in (gave_last (L.state library.now))) → request.now.image ≡ None → uses.run ≡ false → IfOk result (λ ending. ending ≡ Done) }
+    ensures ordered { IsSome (image_in (gave_last (L.state library.now))) → uses.order ≡ true → OnOk result (PutsOrder L.are_reasons sources.now.texts (order_in (gave_last (L.state library.now))) (WritesNext O.written O.faults O.waits screen.old.output.sink screen.old.output.so_far)) }
+    ensures saved { IfSome (image_in (gave_last (L.state library.now))) (λ bytes. IfOk result (EndsSaved request.now.image (λ file. IsSaved (D.holds disk.new) file.now bytes (WritesNext E.written E.faults E.waits screen.old.error.sink screen.old.error.so_far)) uses.run)) }
+    ensures ran { IfSome (image_in (gave_last (L.state library.now))) (λ bytes. N.shows_nothing run.old → uses.order ≡ false → request.now.image ≡ None → uses.run ≡ true → IfOk result (RunsBytes uses.pace.tick uses.pace.steps bytes sources.now.folders (WritesNext O.written O.faults O.waits screen.old.output.sink screen.old.output.so_far) (λ told. screen.old.form ≡ Text → WritesNext E.written E.faults E.waits screen.old.error.sink screen.old.error.so_far told))) }
 {
-    report_build(alloc, screen, library, sources, request)?;
-    let Some(built) = library.last() else {
-        return Ok(Ending::NotBuilt);
-    };
-    match built.outcome.image() {
+    match image_bytes(library) {
         Some(bytes) => use_program(
             alloc, disk, screen, run, library, request, sources, uses, bytes,
         ),
-        None => Ok(Ending::NotBuilt),
+        None => {
+            report_build(alloc, screen, library, sources, request)?;
+            Ok(Ending::NotBuilt)
+        }
     }
+}
+
+// The bytes of the image of the last build, if there was a build and it gave one.
+fn image_bytes<L: FolderLibrary>(library: &L) -> Option<&[u8]>
+    ensures { option_map (λ bytes. bytes.now) result ≡ image_in (gave_last (L.state library.now)) }
+{
+    library.last()?.outcome.image()
 }
 
 // Prints the order, writes the image of these bytes and runs the program, each if it is asked for.
@@ -145,31 +160,72 @@ fn use_program<L: FolderLibrary, D: Disk, O: Sink, E: Sink, N: Run>(
     uses: Uses,
     bytes: &[u8],
 ) -> Result<Ending, Failure>
-    ensures { request.now.image ≡ None → uses.run ≡ false → IfOk result (λ ending. ending ≡ Done) }
+    requires { image_in (gave_last (L.state library.now)) ≡ Some bytes.now }
+    ensures done { request.now.image ≡ None → uses.run ≡ false → IfOk result (λ ending. ending ≡ Done) }
+    ensures ordered { uses.order ≡ true → OnOk result (PutsOrder L.are_reasons sources.now.texts (order_in (gave_last (L.state library.now))) (WritesNext O.written O.faults O.waits screen.old.output.sink screen.old.output.so_far)) }
+    ensures saved { IfOk result (EndsSaved request.now.image (λ file. IsSaved (D.holds disk.new) file.now bytes.now (WritesNext E.written E.faults E.waits screen.old.error.sink screen.old.error.so_far)) uses.run) }
+    ensures ran { N.shows_nothing run.old → uses.order ≡ false → request.now.image ≡ None → uses.run ≡ true → IfOk result (RunsBytes uses.pace.tick uses.pace.steps bytes.now sources.now.folders (WritesNext O.written O.faults O.waits screen.old.output.sink screen.old.output.so_far) (λ told. screen.old.form ≡ Text → WritesNext E.written E.faults E.waits screen.old.error.sink screen.old.error.so_far told)) }
 {
-    if uses.order {
-        print_order(screen, library)?;
-    }
+    print_asked_order(alloc, screen, library, &sources.texts, uses.order)?;
     let saved = save_program(alloc, disk, screen, request, bytes)?;
-    if !show_program(screen, run, library, &sources.texts)? {
+    let runs = show_program(screen, run, library, &sources.texts)?;
+    if !runs {
         return Ok(saved);
     }
-    let ran = run_program(alloc, screen, run, library, &sources.folders, uses)?;
+    let ran = run_program(alloc, screen, run, library, sources, uses)?;
     Ok(worse_of(saved, ran))
 }
 
-// Prints the order of elaboration of the last build.
-fn print_order<L: FolderLibrary, O: Sink, E: Sink>(
+// Prints the order of elaboration of the last build, which is of these sources, if that is asked for.
+fn print_asked_order<L: FolderLibrary, O: Sink, E: Sink>(
+    alloc: Global,
     screen: &mut Screen<O, E>,
     library: &L,
-) -> Result<(), Failure> {
+    texts: &Files,
+    is_asked: bool,
+) -> Result<(), Failure>
+    ensures put { is_asked ≡ true → OnOk result (PutsOrder L.are_reasons texts.now (order_in (gave_last (L.state library.now))) (Adds O.written O.faults O.waits screen.old.output.sink screen.new.output.sink screen.old.output.so_far screen.new.output.so_far)) }
+    ensures none { is_asked ≡ false → screen.new.output ≡ screen.old.output }
+    ensures quiet { (screen.new.error ≡ screen.old.error) × (screen.new.form ≡ screen.old.form) }
+{
+    if is_asked {
+        return print_last_order(alloc, screen, library, texts);
+    }
+    Ok(())
+}
+
+// Prints the order of elaboration of the last build, which is of these sources.
+fn print_last_order<L: FolderLibrary, O: Sink, E: Sink>(
+    alloc: Global,
+    screen: &mut Screen<O, E>,
+    library: &L,
+    texts: &Files,
+) -> Result<(), Failure>
+    ensures put { OnOk result (PutsOrder L.are_reasons texts.now (order_in (gave_last (L.state library.now))) (Adds O.written O.faults O.waits screen.old.output.sink screen.new.output.sink screen.old.output.so_far screen.new.output.so_far)) }
+    ensures quiet { (screen.new.error ≡ screen.old.error) × (screen.new.form ≡ screen.old.form) }
+{
     let Some(built) = library.last() else {
         return Ok(());
     };
     match built.outcome.order() {
-        Some(order) => print_parts(screen, order),
+        Some(order) => print_order(alloc, screen, library, texts, order),
         None => Ok(()),
     }
+}
+
+// Prints an order of elaboration of these sources.
+fn print_order<L: FolderLibrary, O: Sink, E: Sink>(
+    alloc: Global,
+    screen: &mut Screen<O, E>,
+    library: &L,
+    texts: &Files,
+    order: &[UnitKey],
+) -> Result<(), Failure>
+    ensures put { OnOk result ((reasons : List Reasons) × L.are_reasons texts.now (map key_of order.now) reasons × Adds O.written O.faults O.waits screen.old.output.sink screen.new.output.sink screen.old.output.so_far screen.new.output.so_far (order_text reasons)) }
+    ensures quiet { (screen.new.error ≡ screen.old.error) × (screen.new.form ≡ screen.old.form) }
+{
+    let reasons = library.reasons(alloc, texts, order)?;
+    put_order(screen, reasons.as_slice())
 }
 
 // Writes the image, if that is asked for.
@@ -180,16 +236,18 @@ fn save_program<D: Disk, O: Sink, E: Sink>(
     request: &Request<'_>,
     bytes: &[u8],
 ) -> Result<Ending, Failure>
-    ensures { request.now.image ≡ None → IfOk result (λ ending. ending ≡ Done) }
+    ensures none { request.now.image ≡ None → IfOk result (λ ending. ending ≡ Done) × (screen.new.error ≡ screen.old.error) }
+    ensures saved { IfOk result (IsSavedIf request.now.image (λ file. IsSaved (D.holds disk.new) file.now bytes.now (WritesNext E.written E.faults E.waits screen.old.error.sink screen.old.error.so_far))) }
+    ensures quiet { (screen.new.output ≡ screen.old.output) × (screen.new.form ≡ screen.old.form) }
 {
     let Some(file) = request.image else {
         return Ok(Ending::Done);
     };
-    if save(alloc, disk, screen, request, file, bytes)? {
-        Ok(Ending::Done)
-    } else {
-        Ok(Ending::NotBuilt)
+    let is_written = save(alloc, disk, screen, request, file, bytes)?;
+    if !is_written {
+        return Ok(Ending::NotBuilt);
     }
+    Ok(Ending::Done)
 }
 
 // Shows the program of the last build, which is of these sources. Gives whether it is to be run if that is asked for.
@@ -198,7 +256,9 @@ fn show_program<L: FolderLibrary, O: Sink, E: Sink, N: Run>(
     run: &mut N,
     library: &L,
     texts: &Files,
-) -> Result<bool, Failure> {
+) -> Result<bool, Failure>
+    ensures { N.shows_nothing run.old → IfOk result (λ runs. (runs ≡ true) × (screen.new ≡ screen.old)) }
+{
     match library.image() {
         Some(image) => run.show(screen, image, texts),
         None => Ok(true),
@@ -211,16 +271,17 @@ fn run_program<L: FolderLibrary, O: Sink, E: Sink, N: Run>(
     screen: &mut Screen<O, E>,
     run: &mut N,
     library: &L,
-    folders: &Files,
+    sources: &Sources,
     uses: Uses,
 ) -> Result<Ending, Failure>
-    ensures { uses.run ≡ false → IfOk result (λ ending. ending ≡ Done) }
+    ensures done { uses.run ≡ false → IfOk result (λ ending. ending ≡ Done) }
+    ensures ran { IfSome (image_in (gave_last (L.state library.now))) (λ bytes. uses.run ≡ true → IfOk result (RunsBytes uses.pace.tick uses.pace.steps bytes sources.now.folders (WritesNext O.written O.faults O.waits screen.old.output.sink screen.old.output.so_far) (λ told. screen.old.form ≡ Text → WritesNext E.written E.faults E.waits screen.old.error.sink screen.old.error.so_far told))) }
 {
     if !uses.run {
         return Ok(Ending::Done);
     }
     match library.image() {
-        Some(image) => run_image(alloc, screen, run, folders, image, uses.pace),
+        Some(image) => run_image(alloc, screen, run, sources, image, uses.pace),
         None => Ok(Ending::NotBuilt),
     }
 }

@@ -1,4 +1,6 @@
 // What is read from folders and files, and written to them.
+ghost use Rattle.std.specs.Prelude.{IfOk, OnOk};
+
 use std::alloc::Global;
 use std::io;
 
@@ -50,6 +52,14 @@ impl Listing {
 
 /// A disk, and the clock of its machine. Each function gives the machine's error if it fails.
 pub trait Disk {
+    ghost use Rattle.std.specs.Prelude.{ℕ, List};
+
+    /// The contents of the file at this path were made these bytes. A disk needn't say more of it.
+    ghost holds: { Self → List ℕ → List ℕ → Type 0 } = { λ _ _ _. Unit {0} };
+
+    /// The file at this path gave these bytes, of which it was asked for at most so many. A disk needn't say more of it.
+    ghost gives: { Self → List ℕ → ℕ → List ℕ → Type 0 } = { λ _ _ _ _. Unit {0} };
+
     /// The names in a folder; those of folders only if `others`.
     ///
     /// # Errors
@@ -69,14 +79,16 @@ pub trait Disk {
     /// # Errors
     ///
     /// The machine's error.
-    fn read(&self, alloc: Global, path: &str, most: u64) -> io::Result<Vec<u8>>;
+    fn read(&self, alloc: Global, path: &str, most: u64) -> io::Result<Vec<u8>>
+        ensures { IfOk result (λ bytes. gives self.now path.now most bytes.items) };
 
     /// Makes these bytes the contents of a file.
     ///
     /// # Errors
     ///
     /// The machine's error.
-    fn write(&mut self, path: &str, bytes: &[u8]) -> io::Result<()>;
+    fn write(&mut self, path: &str, bytes: &[u8]) -> io::Result<()>
+        ensures { OnOk result (holds self.new path.now bytes.now) };
 
     /// The present moment, in nanoseconds since 1970.
     ///

@@ -1,9 +1,10 @@
 // What builds and runs print: diagnostics with notes, or objects for other programs.
-ghost use Rattle.std.specs.Prelude.{◌≡◌, true, OnOk};
+ghost use Rattle.std.specs.Prelude.{◌≡◌, ◌++◌, false, true, OnOk};
 ghost use Rattle.al_session_stream.specs.Output.{Adds};
+ghost use Rattle.al_folder.specs.Progress.{progress_line};
 ghost use Rattle.al_folder_served.specs.Sources.{Holds, IsBuiltFrom, gave_last};
-ghost use Rattle.al_folder_served.specs.Told.{last_told};
-ghost use Rattle.al_folder_served.specs.declared.request.Form.TheVariants.{Text};
+ghost use Rattle.al_folder_served.specs.Told.{line_end, end_told, last_told, was_faulty};
+ghost use Rattle.al_folder_served.specs.declared.request.Form.TheVariants.{Text, Sarif};
 
 use crate::building::build;
 use crate::disk::Disk;
@@ -13,7 +14,7 @@ use crate::request::{Form, Request};
 use crate::screen::Screen;
 use crate::sources::Sources;
 use crate::telling::{Progress, tell_build, tell_end, tell_progress};
-use crate::watching::{millis, rebuild};
+use crate::watching::{millis, timed_build};
 use al_base::{Diagnostic, Files, Name};
 use al_folder::{ImageChange, RunEnd};
 use al_report::{
@@ -37,6 +38,7 @@ pub fn report_build<L: FolderLibrary, O: Sink, E: Sink>(
     request: &Request<'_>,
 ) -> Result<(), Failure>
     ensures told { screen.old.form ≡ Text → request.now.plain ≡ true → Adds E.written E.faults E.waits screen.old.error.sink screen.new.error.sink screen.old.error.so_far screen.new.error.so_far (last_told screen.old.is_open sources.now.folders sources.now.texts true (gave_last (L.state library.now))) }
+    ensures others { was_faulty (gave_last (L.state library.now)) ≡ false → Adds E.written E.faults E.waits screen.old.error.sink screen.new.error.sink screen.old.error.so_far screen.new.error.so_far (last_told screen.old.is_open sources.now.folders sources.now.texts request.now.plain (gave_last (L.state library.now))) }
     ensures quiet { screen.new.output ≡ screen.old.output }
 {
     if screen.form == Form::Text && request.plain {
@@ -52,7 +54,8 @@ fn report_last<L: FolderLibrary, O: Sink, E: Sink>(
     sources: &Sources,
     request: &Request<'_>,
 ) -> Result<(), Failure>
-    ensures { screen.new.output ≡ screen.old.output }
+    ensures others { was_faulty (gave_last (L.state library.now)) ≡ false → Adds E.written E.faults E.waits screen.old.error.sink screen.new.error.sink screen.old.error.so_far screen.new.error.so_far (last_told screen.old.is_open sources.now.folders sources.now.texts request.now.plain (gave_last (L.state library.now))) }
+    ensures quiet { screen.new.output ≡ screen.old.output }
 {
     let Some(built) = library.last() else {
         return Ok(());
@@ -152,7 +155,9 @@ pub fn report_progress<O: Sink, E: Sink>(
     screen: &mut Screen<O, E>,
     progress: Progress,
 ) -> Result<(), Failure>
-    ensures { screen.new.output ≡ screen.old.output }
+    ensures told { screen.old.form ≡ Text → Adds E.written E.faults E.waits screen.old.error.sink screen.new.error.sink screen.old.error.so_far screen.new.error.so_far (line_end screen.old.is_open ++ progress_line progress.checked progress.sources progress.change progress.millis) }
+    ensures silent { screen.old.form ≡ Sarif → screen.new.error ≡ screen.old.error }
+    ensures quiet { screen.new.output ≡ screen.old.output }
 {
     match screen.form {
         Form::Text => tell_progress(screen, progress),
@@ -191,7 +196,8 @@ pub fn report_end<O: Sink, E: Sink>(
     folders: &Files,
     end: &RunEnd,
 ) -> Result<(), Failure>
-    ensures { screen.new.output ≡ screen.old.output }
+    ensures told { screen.old.form ≡ Text → Adds E.written E.faults E.waits screen.old.error.sink screen.new.error.sink screen.old.error.so_far screen.new.error.so_far (end_told screen.old.is_open folders.now end.now) }
+    ensures quiet { screen.new.output ≡ screen.old.output }
 {
     if screen.form != Form::Json {
         return tell_end(screen, folders, end);
@@ -221,13 +227,6 @@ pub fn build_one<L: FolderLibrary, D: Disk, O: Sink, E: Sink>(
         return build(library, sources, unit);
     }
     let start = millis(disk)?;
-    let change = rebuild(library, sources, unit)?;
-    let passed = millis(disk)?.saturating_sub(start);
-    let progress = Progress {
-        checked: library.last_checked().len(),
-        sources: sources.texts.len(),
-        change,
-        millis: passed as usize,
-    };
+    let progress = timed_build(disk, library, sources, unit, start)?;
     report_built(alloc, screen, progress)
 }

@@ -1,10 +1,16 @@
 // Files with images.
+ghost use Rattle.std.specs.Prelude.{◌≡◌, ◌⊎◌, ℕ, Bool, false, true, List, [], ◌∷◌, IfOk, OnOk};
+ghost use Rattle.al_session_stream.specs.Output.{Adds};
+ghost use Rattle.al_folder_served.specs.Runs.{IsLoaded, RunsBytes, RunsImage, WritesNext};
+ghost use Rattle.al_folder_served.specs.Told.{IsRefused, error_told};
+ghost use Rattle.al_folder_served.specs.declared.request.Form.TheVariants.{Text};
+
 use crate::disk::{Disk, PathKind};
 use crate::failure::Failure;
-use crate::request::{LoadRequest, Request};
+use crate::request::{LoadRequest, Pace, Request};
 use crate::running::{Run, run_image};
 use crate::screen::Screen;
-use al_base::Files;
+use crate::sources::Sources;
 use al_folder::{Ending, has_source_ending};
 use al_link_image::{Image, LinkFault};
 use al_session_stream::Sink;
@@ -28,7 +34,9 @@ pub fn load<D: Disk, O: Sink, E: Sink, N: Run>(
     screen: &mut Screen<O, E>,
     run: &mut N,
     request: LoadRequest<'_>,
-) -> Result<Ending, Failure> {
+) -> Result<Ending, Failure>
+    ensures { N.shows_nothing run.old → IfOk result (IsLoaded (D.gives disk.now request.entry.file.now MAX_IMAGE) (λ bytes. RunsBytes request.entry.pace.tick request.entry.pace.steps bytes [] (WritesNext O.written O.faults O.waits screen.old.output.sink screen.old.output.so_far) (λ told. screen.old.form ≡ Text → WritesNext E.written E.faults E.waits screen.old.error.sink screen.old.error.so_far told)) (IsRefused request.entry.file.now (WritesNext E.written E.faults E.waits screen.old.error.sink screen.old.error.so_far))) }
+{
     match disk.read(alloc, request.file, MAX_IMAGE) {
         Ok(bytes) => run_bytes(alloc, screen, run, request, bytes.as_slice()),
         Err(e) => {
@@ -45,25 +53,36 @@ fn run_bytes<O: Sink, E: Sink, N: Run>(
     run: &mut N,
     request: LoadRequest<'_>,
     bytes: &[u8],
-) -> Result<Ending, Failure> {
+) -> Result<Ending, Failure>
+    ensures { N.shows_nothing run.old → IfOk result (λ ending. RunsBytes request.entry.pace.tick request.entry.pace.steps bytes.now [] (WritesNext O.written O.faults O.waits screen.old.output.sink screen.old.output.so_far) (λ told. screen.old.form ≡ Text → WritesNext E.written E.faults E.waits screen.old.error.sink screen.old.error.so_far told) ending ⊎ IsRefused request.entry.file.now (WritesNext E.written E.faults E.waits screen.old.error.sink screen.old.error.so_far) ending) }
+{
     match Image::read(alloc, bytes) {
-        Ok(image) => {
-            let folders = Files::new(alloc);
-            if !run.show(screen, &image, &folders)? {
-                return Ok(Ending::Done);
-            }
-            run_image(alloc, screen, run, &folders, &image, request.pace)
-        }
+        Ok(image) => run_loaded(alloc, screen, run, &image, request.pace),
         Err(LinkFault::NoMemory) => Err(Failure::Memory),
         Err(_) => {
-            screen.tell_line(&[
-                b"error: ",
-                request.file.as_bytes(),
-                b" isn't an image, or is a damaged one",
-            ])?;
+            let why = b" isn't an image, or is a damaged one";
+            tell_refused(screen, request.file, why)?;
             Ok(Ending::NotBuilt)
         }
     }
+}
+
+// Shows an image without sources, and runs it.
+fn run_loaded<O: Sink, E: Sink, N: Run>(
+    alloc: Global,
+    screen: &mut Screen<O, E>,
+    run: &mut N,
+    image: &Image,
+    pace: Pace,
+) -> Result<Ending, Failure>
+    ensures { N.shows_nothing run.old → IfOk result (RunsImage pace.tick pace.steps image.now [] (WritesNext O.written O.faults O.waits screen.old.output.sink screen.old.output.so_far) (λ told. screen.old.form ≡ Text → WritesNext E.written E.faults E.waits screen.old.error.sink screen.old.error.so_far told)) }
+{
+    let sources = Sources::new(alloc);
+    let runs = run.show(screen, image, &sources.texts)?;
+    if !runs {
+        return Ok(Ending::Done);
+    }
+    run_image(alloc, screen, run, &sources, image, pace)
 }
 
 /// Writes the image's bytes to a file, unless something else is there. Gives whether it was written; if not, the cause was printed.
@@ -78,7 +97,11 @@ pub fn save<D: Disk, O: Sink, E: Sink>(
     request: &Request<'_>,
     file: &str,
     bytes: &[u8],
-) -> Result<bool, Failure> {
+) -> Result<bool, Failure>
+    ensures refused { IfOk result (λ is_written. is_written ≡ false → (rest : List (List ℕ)) × Adds E.written E.faults E.waits screen.old.error.sink screen.new.error.sink screen.old.error.so_far screen.new.error.so_far (error_told screen.old.is_open file.now rest)) }
+    ensures written { IfOk result (λ is_written. is_written ≡ true → D.holds disk.new file.now bytes.now × (screen.new.error ≡ screen.old.error)) }
+    ensures quiet { (screen.new.output ≡ screen.old.output) × (screen.new.form ≡ screen.old.form) }
+{
     if !request.force {
         if let Some(why) = refusal_of(alloc, disk, file)? {
             tell_refused(screen, file, why)?;
@@ -116,12 +139,15 @@ fn refusal_of<D: Disk>(
     }
 }
 
-// Prints why no image is written to this file.
+// Prints why no image is read from this file, or written to it.
 fn tell_refused<O: Sink, E: Sink>(
     screen: &mut Screen<O, E>,
     file: &str,
     why: &[u8],
-) -> Result<(), Failure> {
+) -> Result<(), Failure>
+    ensures told { Adds E.written E.faults E.waits screen.old.error.sink screen.new.error.sink screen.old.error.so_far screen.new.error.so_far (error_told screen.old.is_open file.now (why.now ∷ [])) }
+    ensures quiet { (screen.new.output ≡ screen.old.output) × (screen.new.form ≡ screen.old.form) }
+{
     screen.tell_line(&[b"error: ", file.as_bytes(), why])
 }
 
@@ -132,7 +158,10 @@ fn tell_fault<O: Sink, E: Sink>(
     file: &str,
     what: &[u8],
     error: io::Error,
-) -> Result<(), Failure> {
+) -> Result<(), Failure>
+    ensures told { OnOk result ((why : List ℕ) × Adds E.written E.faults E.waits screen.old.error.sink screen.new.error.sink screen.old.error.so_far screen.new.error.so_far (error_told screen.old.is_open file.now (what.now ∷ why ∷ []))) }
+    ensures quiet { (screen.new.output ≡ screen.old.output) × (screen.new.form ≡ screen.old.form) }
+{
     let why = format!(in alloc; "{error}")?;
     screen.tell_line(&[b"error: ", file.as_bytes(), what, why.as_bytes()])
 }

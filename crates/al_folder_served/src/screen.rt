@@ -42,6 +42,7 @@ impl<O: Sink, E: Sink> Screen<O, E> {
         ensures put { Adds O.written O.faults O.waits self.old.output.sink self.new.output.sink self.old.output.so_far self.new.output.so_far bytes.now }
         ensures all { OnOk result (IsOk self.new.output.so_far) }
         ensures quiet { (self.new.error ≡ self.old.error) × (self.new.is_open ≡ self.old.is_open) }
+        ensures form { self.new.form ≡ self.old.form }
     {
         self.output.say(bytes);
         self.end_put()
@@ -55,6 +56,7 @@ impl<O: Sink, E: Sink> Screen<O, E> {
     pub fn put_run(&mut self, bytes: &[u8]) -> Result<(), Failure>
         ensures put { Adds O.written O.faults O.waits self.old.output.sink self.new.output.sink self.old.output.so_far self.new.output.so_far bytes.now }
         ensures quiet { self.new.error ≡ self.old.error }
+        ensures form { self.new.form ≡ self.old.form }
     {
         let Some(last) = bytes.last() else {
             return Ok(());
@@ -72,6 +74,7 @@ impl<O: Sink, E: Sink> Screen<O, E> {
         ensures told { Adds E.written E.faults E.waits self.old.error.sink self.new.error.sink self.old.error.so_far self.new.error.so_far (line_end self.old.is_open ++ bytes.now) }
         ensures all { OnOk result (IsOk self.new.error.so_far) }
         ensures quiet { self.new.output ≡ self.old.output }
+        ensures form { self.new.form ≡ self.old.form }
     {
         self.begin();
         self.error.say(bytes);
@@ -87,6 +90,7 @@ impl<O: Sink, E: Sink> Screen<O, E> {
         ensures told { Adds E.written E.faults E.waits self.old.error.sink self.new.error.sink self.old.error.so_far self.new.error.so_far (line_end self.old.is_open ++ message_text (map (λ piece. piece.now) pieces.now)) }
         ensures all { OnOk result (IsOk self.new.error.so_far) }
         ensures quiet { self.new.output ≡ self.old.output }
+        ensures form { self.new.form ≡ self.old.form }
     {
         self.begin();
         self.error.say_line(pieces);
@@ -97,6 +101,7 @@ impl<O: Sink, E: Sink> Screen<O, E> {
     pub fn begin(&mut self)
         ensures told { Adds E.written E.faults E.waits self.old.error.sink self.new.error.sink self.old.error.so_far self.new.error.so_far (line_end self.old.is_open) }
         ensures quiet { self.new.output ≡ self.old.output }
+        ensures form { self.new.form ≡ self.old.form }
     {
         if self.is_open {
             self.is_open = false;
@@ -113,6 +118,7 @@ impl<O: Sink, E: Sink> Screen<O, E> {
         ensures told { Adds E.written E.faults E.waits self.old.error.sink self.new.error.sink self.old.error.so_far self.new.error.so_far [] }
         ensures all { OnOk result (IsOk self.new.error.so_far) }
         ensures quiet { (self.new.output ≡ self.old.output) × (self.new.is_open ≡ self.old.is_open) }
+        ensures form { self.new.form ≡ self.old.form }
     {
         match self.error.pass() {
             Ok(()) => Ok(()),
@@ -129,6 +135,7 @@ impl<O: Sink, E: Sink> Screen<O, E> {
         ensures put { Adds O.written O.faults O.waits self.old.output.sink self.new.output.sink self.old.output.so_far self.new.output.so_far [] }
         ensures all { OnOk result (IsOk self.new.output.so_far) }
         ensures quiet { (self.new.error ≡ self.old.error) × (self.new.is_open ≡ self.old.is_open) }
+        ensures form { self.new.form ≡ self.old.form }
     {
         match self.output.pass() {
             Ok(()) => Ok(()),

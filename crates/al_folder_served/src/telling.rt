@@ -4,13 +4,15 @@ ghost use Rattle.al_base.specs.Batch.{finding_of, key_of};
 ghost use Rattle.al_session_stream.specs.Output.{Adds};
 ghost use Rattle.al_session_served.specs.Outcomes.{outcome_model};
 ghost use Rattle.al_folder.specs.Diagnostics.{diagnostics_text};
+ghost use Rattle.al_folder_served.specs.Orders.{order_text};
 ghost use Rattle.al_folder.specs.Parts.{part_lines};
 ghost use Rattle.al_folder.specs.Progress.{progress_line};
 ghost use Rattle.al_folder_served.specs.Sources.{gave_last};
-ghost use Rattle.al_folder_served.specs.Told.{line_end, build_text, last_told, is_silent, end_told};
+ghost use Rattle.al_folder_served.specs.Told.{line_end, build_text, checked_told, last_told, is_silent, end_told};
 
 use crate::failure::Failure;
 use crate::library::FolderLibrary;
+use crate::reasons::Reasons;
 use crate::screen::Screen;
 use crate::sources::Sources;
 use crate::voice::Voice;
@@ -169,19 +171,20 @@ pub fn tell_progress<O: Sink, E: Sink>(
     screen.end()
 }
 
-/// Prints a line for each part of a unit on the standard output.
+/// Prints an order of elaboration with its reasons on the standard output.
 ///
 /// # Errors
 ///
 /// A [`Failure`] if an output can't be written.
-pub fn print_parts<O: Sink, E: Sink>(
+pub fn put_order<O: Sink, E: Sink>(
     screen: &mut Screen<O, E>,
-    keys: &[UnitKey],
+    order: &[Reasons],
 ) -> Result<(), Failure>
-    ensures put { Adds O.written O.faults O.waits screen.old.output.sink screen.new.output.sink screen.old.output.so_far screen.new.output.so_far (part_lines (map key_of keys.now)) }
+    ensures put { Adds O.written O.faults O.waits screen.old.output.sink screen.new.output.sink screen.old.output.so_far screen.new.output.so_far (order_text order.now) }
     ensures quiet { (screen.new.error ≡ screen.old.error) × (screen.new.is_open ≡ screen.old.is_open) }
+    ensures form { screen.new.form ≡ screen.old.form }
 {
-    screen.output.say_parts(keys);
+    screen.output.say_order(order);
     screen.end_put()
 }
 
@@ -200,4 +203,22 @@ pub fn tell_parts<O: Sink, E: Sink>(
     screen.begin();
     screen.error.say_parts(keys);
     screen.end()
+}
+
+/// Prints the units that a build checked on the standard error.
+///
+/// # Errors
+///
+/// A [`Failure`] if an output can't be written.
+pub fn tell_checked<O: Sink, E: Sink>(
+    screen: &mut Screen<O, E>,
+    units: &[UnitKey],
+) -> Result<(), Failure>
+    ensures told { Adds E.written E.faults E.waits screen.old.error.sink screen.new.error.sink screen.old.error.so_far screen.new.error.so_far (checked_told screen.old.is_open (map key_of units.now)) }
+    ensures quiet { screen.new.output ≡ screen.old.output }
+{
+    if units.is_empty() {
+        return screen.tell_line(&[b"no unit was checked"]);
+    }
+    tell_parts(screen, units)
 }

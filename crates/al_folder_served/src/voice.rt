@@ -7,7 +7,10 @@ ghost use Rattle.al_folder.specs.Messages.{message_text};
 ghost use Rattle.al_folder.specs.Parts.{part_lines};
 ghost use Rattle.al_folder.specs.Progress.{progress_line};
 ghost use Rattle.al_folder.specs.Runs.{end_text};
+ghost use Rattle.al_folder_served.specs.Orders.{order_text};
 
+use crate::orders::emit_order;
+use crate::reasons::Reasons;
 use al_base::{Files, UnitKey};
 use al_folder::{
     ImageChange, RunEnd, emit_end, emit_excerpt, emit_message, emit_parts, emit_progress,
@@ -69,6 +72,13 @@ impl<K: Sink> Voice<K> {
         ensures { Adds K.written K.faults K.waits self.old.sink self.new.sink self.old.so_far self.new.so_far (part_lines (map key_of keys.now)) }
     {
         self.so_far = emit_parts(self.so_far, &mut self.sink, keys);
+    }
+
+    /// Writes an order of elaboration with its reasons.
+    pub fn say_order(&mut self, order: &[Reasons])
+        ensures { Adds K.written K.faults K.waits self.old.sink self.new.sink self.old.so_far self.new.so_far (order_text order.now) }
+    {
+        self.so_far = emit_order(self.so_far, &mut self.sink, order);
     }
 
     /// Writes how a run ended. The files of its units are in these folders.

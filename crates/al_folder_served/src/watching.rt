@@ -1,5 +1,16 @@
 // A library that is built again and again, as lines of the standard input ask for it.
-ghost use Rattle.std.specs.Prelude.{◌≡◌, Ok, OnOk, false};
+ghost use Rattle.std.specs.Prelude.{◌≡◌, ◌↔◌, ◌++◌, ℕ, List, Some, None, Ok, IfOk, OnOk, false, true, map};
+ghost use Rattle.al_base.specs.Batch.{key_of};
+ghost use Rattle.al_base.specs.declared.unit_key.UnitKey.{UnitKey};
+ghost use Rattle.al_session_stream.specs.Output.{Adds};
+ghost use Rattle.al_folder.specs.Words.{watch_word};
+ghost use Rattle.al_folder.specs.declared.words.WatchWord.TheVariants.{Quit, Unknown};
+ghost use Rattle.al_folder.specs.Progress.{progress_line};
+ghost use Rattle.al_folder_served.specs.Runs.{WritesNext};
+ghost use Rattle.al_folder_served.specs.Told.{asks_checked, checked_told, line_end, without_return, words_text};
+ghost use Rattle.al_folder_served.specs.UnitReasons.{TellsWhy, asks_why};
+ghost use Rattle.al_folder_served.specs.declared.request.Form.TheVariants.{Text};
+ghost use Rattle.al_folder_served.specs.declared.telling.Progress.{Progress};
 ghost use Rattle.al_session_served.specs.Library.{empty};
 ghost use Rattle.al_folder_served.specs.Sources.{Holds, IsBuiltFrom};
 
@@ -15,8 +26,9 @@ use crate::request::{Pace, Request};
 use crate::running::Run;
 use crate::screen::Screen;
 use crate::sources::Sources;
-use crate::telling::{Progress, tell_parts};
+use crate::telling::{Progress, tell_checked, tell_parts};
 use crate::unchanged::are_unchanged;
+use crate::unit_reasons::{asks_why, tell_why};
 use al_base::{Name, Refusal};
 use al_folder::{Ending, ImageChange, WatchWord, image_change, watch_word};
 use al_session_served::Outcome;
@@ -113,10 +125,12 @@ fn uses_of(request: &Request<'_>) -> Uses {
 }
 
 // The line without a CR at its end, which terminals of other systems send before LF.
-fn without_return(line: &[u8]) -> &[u8] {
-    match line {
-        [front @ .., b'\r'] => front,
-        _ => line,
+fn without_return(line: &[u8]) -> &[u8]
+    ensures { result.now ≡ without_return line.now }
+{
+    match line.strip_suffix(b"\r".as_slice()) {
+        Some(front) => front,
+        None => line,
     }
 }
 
@@ -132,7 +146,12 @@ fn serve_line<L: FolderLibrary, D: Disk, O: Sink, E: Sink, N: Run>(
     line: &[u8],
 ) -> Result<bool, Failure>
     requires { Holds (L.state library.old) kept.old.sources.texts }
-    ensures { OnOk result (Holds (L.state library.new) kept.new.sources.texts) }
+    ensures holds { OnOk result (Holds (L.state library.new) kept.new.sources.texts) }
+    ensures quit { IfOk result (λ more. (more ≡ false) ↔ (watch_word (without_return line.now) ≡ Quit)) }
+    ensures unknown { watch_word (without_return line.now) ≡ Unknown → asks_checked (without_return line.now) ≡ false → asks_why (without_return line.now) ≡ None → Adds E.written E.faults E.waits screen.old.error.sink screen.new.error.sink screen.old.error.so_far screen.new.error.so_far (line_end screen.old.is_open ++ words_text) }
+    ensures checked { watch_word (without_return line.now) ≡ Unknown → asks_checked (without_return line.now) ≡ true → (units : List UnitKey) × L.are_checked library.old units × Adds E.written E.faults E.waits screen.old.error.sink screen.new.error.sink screen.old.error.so_far screen.new.error.so_far (checked_told screen.old.is_open (map key_of units)) }
+    ensures why { watch_word (without_return line.now) ≡ Unknown → asks_checked (without_return line.now) ≡ false → (name : List ℕ) → asks_why (without_return line.now) ≡ Some name → OnOk result (TellsWhy (L.is_why library.old) (Adds E.written E.faults E.waits screen.old.error.sink screen.new.error.sink screen.old.error.so_far screen.new.error.so_far) screen.old.is_open name) }
+    ensures quiet { watch_word (without_return line.now) ≡ Unknown → screen.new.output ≡ screen.old.output }
 {
     let mut uses = uses_of(request);
     match watch_word(without_return(line)) {
@@ -145,14 +164,43 @@ fn serve_line<L: FolderLibrary, D: Disk, O: Sink, E: Sink, N: Run>(
         }
         WatchWord::Quit => return Ok(false),
         WatchWord::Unknown => {
-            screen.tell_line(&[
-                b"the words are run, order, obsolete and quit, and an empty line builds",
-            ])?;
+            tell_asked(alloc, screen, library, without_return(line))?;
             return Ok(true);
         }
     }
     build_again(alloc, disk, screen, run, library, request, kept, uses)?;
     Ok(true)
+}
+
+// Prints the units that the last build checked, or why it checked one or not, if the line asks for that, and else which words there are.
+fn tell_asked<L: FolderLibrary, O: Sink, E: Sink>(
+    alloc: Global,
+    screen: &mut Screen<O, E>,
+    library: &L,
+    line: &[u8],
+) -> Result<(), Failure>
+    ensures unknown { asks_checked line.now ≡ false → asks_why line.now ≡ None → Adds E.written E.faults E.waits screen.old.error.sink screen.new.error.sink screen.old.error.so_far screen.new.error.so_far (line_end screen.old.is_open ++ words_text) }
+    ensures checked { asks_checked line.now ≡ true → (units : List UnitKey) × L.are_checked library.now units × Adds E.written E.faults E.waits screen.old.error.sink screen.new.error.sink screen.old.error.so_far screen.new.error.so_far (checked_told screen.old.is_open (map key_of units)) }
+    ensures why { asks_checked line.now ≡ false → (name : List ℕ) → asks_why line.now ≡ Some name → OnOk result (TellsWhy (L.is_why library.now) (Adds E.written E.faults E.waits screen.old.error.sink screen.new.error.sink screen.old.error.so_far screen.new.error.so_far) screen.old.is_open name) }
+    ensures quiet { screen.new.output ≡ screen.old.output }
+{
+    if line == b"checked".as_slice() {
+        return tell_checked(screen, library.last_checked());
+    }
+    if let Some(name) = asks_why(line) {
+        return tell_why(alloc, screen, library, name);
+    }
+    tell_words(screen)
+}
+
+// Prints which words there are.
+fn tell_words<O: Sink, E: Sink>(screen: &mut Screen<O, E>) -> Result<(), Failure>
+    ensures told { Adds E.written E.faults E.waits screen.old.error.sink screen.new.error.sink screen.old.error.so_far screen.new.error.so_far (line_end screen.old.is_open ++ words_text) }
+    ensures quiet { screen.new.output ≡ screen.old.output }
+{
+    screen.tell_line(&[
+        b"the words are run, order, checked, why UNIT, obsolete and quit, and an empty line builds",
+    ])
 }
 
 // Reads the folders again, and gives the library what has changed. Gives whether all could be read; if not, the library is as before.
@@ -206,16 +254,30 @@ fn build_again<L: FolderLibrary, D: Disk, O: Sink, E: Sink, N: Run>(
     if !read_again(alloc, disk, screen, library, request, kept)? {
         return Ok(());
     }
-    let change = rebuild(library, &kept.sources, kept.unit)?;
-    let passed = millis(disk)?.saturating_sub(start);
-    let progress = Progress {
-        checked: library.last_checked().len(),
-        sources: kept.sources.texts.len(),
-        change,
-        millis: passed as usize,
-    };
-    report_progress(alloc, screen, progress)?;
+    build_read(
+        alloc, disk, screen, run, library, request, kept, uses, start,
+    )
+}
+
+// Builds the sources that were read, prints what that did in the milliseconds since this moment, and uses the program.
+fn build_read<L: FolderLibrary, D: Disk, O: Sink, E: Sink, N: Run>(
+    alloc: Global,
+    disk: &mut D,
+    screen: &mut Screen<O, E>,
+    run: &mut N,
+    library: &mut L,
+    request: &Request<'_>,
+    kept: &Kept<'_>,
+    uses: Uses,
+    start: u64,
+) -> Result<(), Failure>
+    requires { Holds (L.state library.old) kept.now.sources.texts }
+    ensures built { OnOk result (IsBuiltFrom L.meaning (L.state library.new) kept.now.sources.texts kept.now.unit.now) }
+    ensures told { screen.old.form ≡ Text → OnOk result ((p : Progress) × WritesNext E.written E.faults E.waits screen.old.error.sink screen.old.error.so_far (line_end screen.old.is_open ++ progress_line p.checked p.sources p.change p.millis)) }
+{
     let sources = &kept.sources;
+    let progress = timed_build(disk, library, sources, kept.unit, start)?;
+    report_progress(alloc, screen, progress)?;
     let _ending = finish_build(alloc, disk, screen, run, library, request, sources, uses)?;
     Ok(())
 }
@@ -232,12 +294,34 @@ pub fn millis<D: Disk>(disk: &D) -> Result<u64, Failure> {
     }
 }
 
-/// Builds. Gives what that did to the image.
+/// Builds. Gives what that did, in the milliseconds since this moment.
 ///
 /// # Errors
 ///
-/// `Memory` if memory runs out.
-pub fn rebuild<L: FolderLibrary>(
+/// `Clock` if the clock can't be read; `Memory` if memory runs out.
+pub fn timed_build<L: FolderLibrary, D: Disk>(
+    disk: &D,
+    library: &mut L,
+    sources: &Sources,
+    unit: &Name,
+    start: u64,
+) -> Result<Progress, Failure>
+    requires { Holds (L.state library.old) sources.now.texts }
+    ensures holds { Holds (L.state library.new) sources.now.texts }
+    ensures built { OnOk result (IsBuiltFrom L.meaning (L.state library.new) sources.now.texts unit.now) }
+{
+    let change = rebuild(library, sources, unit)?;
+    let passed = millis(disk)?.saturating_sub(start);
+    Ok(Progress {
+        checked: library.last_checked().len(),
+        sources: sources.texts.len(),
+        change,
+        millis: passed as usize,
+    })
+}
+
+// Builds. Gives what that did to the image.
+fn rebuild<L: FolderLibrary>(
     library: &mut L,
     sources: &Sources,
     unit: &Name,

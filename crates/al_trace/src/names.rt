@@ -89,19 +89,25 @@ impl Names {
         self.objects.get(number?)
     }
 
+    /// The place at which the code of the task of a number begins; none of the environment task.
+    pub fn place_of_task(&self, number: u32) -> Option<u32> {
+        let index = (number as usize).checked_sub(1)?;
+        self.tasks.get(index).copied()
+    }
+
     /// The unit whose code has the task of a number; none of the environment task.
     pub fn unit_of_task(&self, number: u32) -> Option<&ImageObject> {
-        let index = (number as usize).checked_sub(1)?;
-        let place = *self.tasks.get(index)?;
-        unit_before(self.objects.as_slice(), place)
+        unit_before(self.objects.as_slice(), self.place_of_task(number)?)
+    }
+
+    /// The first place at which the protected object of a number is entered, which is in the code of its body.
+    pub fn place_of_object(&self, number: u32) -> Option<u32> {
+        *self.protected.get(number as usize)?
     }
 
     /// The unit whose code has the body of the protected object of a number.
     pub fn unit_of_object(&self, number: u32) -> Option<&ImageObject> {
-        match self.protected.get(number as usize) {
-            Some(Some(place)) => unit_before(self.objects.as_slice(), *place),
-            _ => None,
-        }
+        unit_before(self.objects.as_slice(), self.place_of_object(number)?)
     }
 }
 
@@ -123,7 +129,9 @@ fn find(
     for instruction in instructions.as_slice() {
         match instruction {
             Instr::Task { place, priority: _ } => tasks.push(*place)?,
-            Instr::Protected(Protected::Enter, object) => enter(protected, *object, here),
+            Instr::Protected(Protected::Enter | Protected::EnterEntry, object) => {
+                enter(protected, *object, here)
+            }
             _ => {}
         }
         here = after(instruction, here, &mut bytes)?;

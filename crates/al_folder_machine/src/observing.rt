@@ -1,15 +1,15 @@
 // What is shown of runs: a trace that is written to a file, a profile on the standard output, or nothing; and listings of code.
-ghost use Rattle.std.specs.Prelude.{◌≤◌, IfOk};
+ghost use Rattle.std.specs.Prelude.{◌≡◌, ◌≤◌, false, true, IfOk};
 
-use crate::looks::Looks;
 use al_base::{FileKey, Files, NoMemory};
 use al_folder::line_at;
-use al_folder_served::{Failure, Run, Screen};
+use al_folder_served::{Failure, Run, Screen, Sources};
+use al_folder_words::Looks;
 use al_link_image::{Image, ImageObject};
 use al_listing::{NoSources, Profile, SourceLines, emit_listing};
 use al_session_stream::{Device, Sink};
 use al_tasks::World;
-use al_trace::{Trace, task_report};
+use al_trace::{ReadSources, Trace, task_report};
 use std::alloc::Global;
 use std::io::{self, Write};
 use std::rt::Files as HostFiles;
@@ -134,6 +134,8 @@ impl<'a, R: HostFiles + AllocGlobal> Observer<'a, R> {
 }
 
 impl<R: HostFiles + AllocGlobal> Run for Observer<'_, R> {
+    ghost shows_nothing = { λ o. (o.looks.listing ≡ false) × (o.runs ≡ true) };
+
     fn show<O: Sink, E: Sink>(
         &mut self,
         screen: &mut Screen<O, E>,
@@ -171,8 +173,9 @@ impl<R: HostFiles + AllocGlobal> Run for Observer<'_, R> {
         screen: &mut Screen<O, E>,
         image: &Image,
         world: &World,
+        sources: &Sources,
     ) -> Result<(), Failure> {
-        tell_tasks(self.alloc, screen, image, world)?;
+        tell_tasks(self.alloc, screen, image, world, sources)?;
         match std::mem::replace(&mut self.eye, Eye::Nobody) {
             Eye::Nobody => Ok(()),
             Eye::Blind(e) => self.tell_blind(screen, &e),
@@ -188,8 +191,13 @@ fn tell_tasks<O: Sink, E: Sink>(
     screen: &mut Screen<O, E>,
     image: &Image,
     world: &World,
+    sources: &Sources,
 ) -> Result<(), Failure> {
-    let report = task_report(alloc, image, world)?;
+    let read = ReadSources {
+        texts: &sources.texts,
+        folders: &sources.folders,
+    };
+    let report = task_report(alloc, image, world, read)?;
     if report.is_empty() {
         return Ok(());
     }

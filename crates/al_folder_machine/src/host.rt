@@ -9,10 +9,15 @@ use std::rt::{Clock, Files};
 use std::time::{Instant, SystemTime, UNIX_EPOCH};
 
 /// The disk of the machine, and its clock.
-#[derive(Drop)]
 pub struct Host<'a, R> {
     rt: &'a R,
     start: Instant,
+}
+
+impl<R> Drop for Host<'_, R> {
+    fn drop(self) {
+        let Host { rt: _, start: _ } = self;
+    }
 }
 
 impl<'a, R: Clock> Host<'a, R> {
@@ -129,9 +134,14 @@ fn since_1970(time: SystemTime) -> u64 {
 }
 
 /// The lines that a reader reads.
-#[derive(Drop)]
 pub struct Lines<B> {
     reader: B,
+}
+
+impl<B: Drop> Drop for Lines<B> {
+    fn drop(self) {
+        let Lines { reader: _ } = self;
+    }
 }
 
 impl<B> Lines<B> {

@@ -23,12 +23,8 @@ pub struct Looks<'a> {
 }
 
 impl<'a> Looks<'a> {
-    /// What the command line asks for.
-    ///
-    /// # Errors
-    ///
-    /// The line that says what is wrong with it.
-    pub fn of(options: &Options<'a>) -> Result<Looks<'a>, &'static str> {
+    // What the command line asks for; else the line that says what is wrong with it.
+    pub(crate) fn of(options: &Options<'a>) -> Result<Looks<'a>, &'static str> {
         let runs = options.run || options.watch || options.load.is_some();
         let observes = options.trace.is_some() || options.profile;
         if observes && !runs {

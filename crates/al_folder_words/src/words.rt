@@ -50,7 +50,8 @@ inside these folders aren't read.
   --profile     prints how many instructions of the run lines and bodies had
   --listing     prints the code with its lines and tables
   --watch       goes on: at each line of the standard input the files are read
-                and built again; the words are run, order, obsolete and quit
+                and built again; the words are run, order, checked,
+                why UNIT, obsolete and quit
 
 The exit status is 0, 1 if there is no program, 2 if the words have another
 form, 3 if an exception ended the run.
@@ -65,16 +66,58 @@ const MAX_TICK: u32 = 10_000;
 const MAX_STEPS: u32 = 1_000_000_000;
 
 /// What is asked for.
-#[derive(Drop)]
 pub enum Asked<'a> {
     Help,
     Version,
     /// The page of a code; all pages if it is `None`.
     Explain(Option<u16>),
-    Load(LoadRequest<'a>, Looks<'a>),
-    Build(Request<'a>, Looks<'a>),
+    Load(LoadAsked<'a>),
+    Build(BuildAsked<'a>),
     /// The command line is wrong, and this line says how.
     Wrong(String),
+}
+
+impl Drop for Asked<'_> {
+    fn drop(self) {
+        match self {
+            Asked::Help => {}
+            Asked::Version => {}
+            Asked::Explain(_) => {}
+            Asked::Load(_) => {}
+            Asked::Build(_) => {}
+            Asked::Wrong(_) => {}
+        }
+    }
+}
+
+/// The run of an image that is asked for.
+pub struct LoadAsked<'a> {
+    pub request: LoadRequest<'a>,
+    pub looks: Looks<'a>,
+}
+
+impl Drop for LoadAsked<'_> {
+    fn drop(self) {
+        let LoadAsked {
+            request: _,
+            looks: _,
+        } = self;
+    }
+}
+
+/// The builds that are asked for.
+pub struct BuildAsked<'a> {
+    pub request: Request<'a>,
+    pub looks: Looks<'a>,
+}
+
+impl Drop for BuildAsked<'_> {
+    fn drop(self) {
+        let BuildAsked {
+            request: _,
+            looks: _,
+        } = self;
+    }
 }
 
 /// What the command line asks for, which begins with the program's own name.
@@ -178,7 +221,8 @@ fn load_of<'a>(
             "error: --load FILE builds nothing, and takes only --steps, --tick, --trace, --from, --profile and --listing",
         );
     }
-    Ok(Asked::Load(LoadRequest { file, pace }, looks))
+    let request = LoadRequest { file, pace };
+    Ok(Asked::Load(LoadAsked { request, looks }))
 }
 
 // The build of units.
@@ -208,7 +252,7 @@ fn build_of<'a, D: Disk>(
     if request.folders.is_empty() && request.project.is_none() {
         add_folder(&mut request, folder_path(alloc, ".")?)?;
     }
-    Ok(Asked::Build(request, looks))
+    Ok(Asked::Build(BuildAsked { request, looks }))
 }
 
 // The form in a word, if there is a word; if that isn't a form, the word.

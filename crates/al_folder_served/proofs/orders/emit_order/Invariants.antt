@@ -1,0 +1,12 @@
+use Rattle.std.proofs.Common.{◌≡◌, take, IsOk}
+use Rattle.std.specs.List.{flat_map}
+use Rattle.al_session_stream.specs.Output.{Adds}
+use Rattle.al_folder_served.specs.Orders.{reasons_text}
+use Rattle.al_folder_served.proofs.orders.emit_order.Given as goal
+
+abbrev pub invariant-loop-reasons : goal.invariant-loop-reasons
+invariant-loop-reasons g l = record {
+  adds : Adds g.K.Sink.written g.K.Sink.faults g.K.Sink.waits l.fn.writer l.writer l.fn.so_far l.so_far
+      (flat_map reasons_text (take l.reasons-index l.order));
+  room : IsOk l.so_far → IsOk l.fn.so_far × (g.K.Sink.faults l.writer ≡ g.K.Sink.faults l.fn.writer);
+}
