@@ -3,9 +3,9 @@
 1,000 and 4,000 by default.
 
 A body and a declaration get a fault and are mended, a change of a comment tells nothing (the answer to a request behind it is waited for), a name that
-all packages read goes and comes back. Each figure is the median of some turns, in milliseconds of the clock. First of all is what is told first, behind
-`initialized`, and last the memory that the process has and the most that it had. What is aimed at: a body under 5 ms, broken and mended, at each
-number, and under 100 MB at 4,000. It is no test.
+all packages read goes and comes back; then the symbols of a body, and the units whose names hold a word. Each figure is the median of some turns, in
+milliseconds of the clock. First of all is what is told first, behind `initialized`, and last the memory that the process has and the most that it had.
+What is aimed at: a body under 5 ms, broken and mended, at each number, and under 100 MB at 4,000. It is no test.
 """
 import pathlib
 import statistics
@@ -64,6 +64,15 @@ class Client:
             took = time.perf_counter() - began
         return took * 1000
 
+    def answer(self, method, params):
+        """How long it takes until the answer to a request is there."""
+        took = []
+        for _ in range(TURNS):
+            began = time.perf_counter()
+            self.server.request(method, params)
+            took.append((time.perf_counter() - began) * 1000)
+        return statistics.median(took)
+
     def pair(self, name, broken, whole, tells=True, turns=TURNS):
         took = [(self.change(name, broken, tells), self.change(name, whole, tells)) for _ in range(turns)]
         return [statistics.median(it) for it in zip(*took)]
@@ -91,6 +100,9 @@ def timed(program, count):
             there, back = client.pair(file, broken, files[file], tells, turns)
             aim = f"   aim {AIM_BODY} ms" if what.startswith("body") else ""
             print(f"  {what:<42} {there:8.2f} / {back:8.2f} ms{aim}", flush=True)
+        symbols = client.answer("textDocument/documentSymbol", {"textDocument": {"uri": client.uri(name)}})
+        units = client.answer("workspace/symbol", {"query": "p1"})
+        print(f"  {'symbols of a body / units by a word':<42} {symbols:8.2f} / {units:8.2f} ms", flush=True)
         now, most = memory(client.server.process)
         print(f"  memory {now:.1f} MB, at most {most:.1f} MB" + (f"   aim {AIM_MEMORY} MB" if count == 4000 else ""), flush=True)
         client.server.process.kill()

@@ -14,7 +14,8 @@ tests/editor/NAME.txt are dialogues, each in a folder of its own, of which {fold
 All that the server sends must be wanted, in this order.
 
 Then random edits: a client keeps its own texts by its own rules of lines and columns, in UTF-8 and in UTF-16, and its picture of what is wrong,
-which after each edit must be what ADALIB says of these texts from nothing (N edits, 300 by default). Then damaged input: noise in frames (N bytes,
+which after each edit must be what ADALIB says of these texts from nothing (N edits, 300 by default), and the symbols of each text must be in one
+another, where the text has their names. Then damaged input: noise in frames (N bytes,
 100,000 by default), each of which has one answer, and messages with bytes changed (N, 2,000 by default); each must end in an answer or an end, and
 each request that stays whole has its answer. Last, where Neovim is there, its client opens a folder, makes and mends faults; and with ADALIB a
 folder of N packages (60 by default), of which it must show what ADALIB says of the texts that it has, after each step of tests/editor/neovim_steps.lua:
@@ -314,10 +315,38 @@ class Client:
             else:
                 self.picture.pop(name, None)
 
+    def symbols(self, name):
+        return self.server.request("textDocument/documentSymbol", {"textDocument": {"uri": self.uri(name)}})[0]["result"]
+
     def end(self):
         self.server.request("shutdown")
         self.server.notify("exit")
         return self.server.ended()
+
+
+def spot(position):
+    return position["line"], position["character"]
+
+
+def is_within(inner, outer):
+    return spot(outer["start"]) <= spot(inner["start"]) <= spot(inner["end"]) <= spot(outer["end"])
+
+
+def selected(text, range_, encoding):
+    """The text of a range in one line."""
+    line = (lines_of(text) + [""])[range_["start"]["line"]]
+    data, wide = (line.encode("utf-16-le"), 2) if encoding == "utf-16" else (line.encode(), 1)
+    return data[range_["start"]["character"] * wide : range_["end"]["character"] * wide].decode("utf-16-le" if wide == 2 else "utf-8", "replace")
+
+
+def misplaced(text, symbols, encoding, outer=None):
+    """How many symbols aren't inside of what declares them, have their identifier outside of their range, or don't end in it."""
+    wrong = 0
+    for it in symbols:
+        fits = is_within(it["selectionRange"], it["range"]) and (outer is None or is_within(it["range"], outer))
+        wrong += not fits or not it["name"].endswith(selected(text, it["selectionRange"], encoding)) or not it["name"]
+        wrong += misplaced(text, it["children"], encoding, it["range"])
+    return wrong
 
 
 PIECES = ["é", "𝄞", "\r\n", "\r", "\n", " ", "-- ü𝄞\n", "\f", "\v", "Counter", "Limit", ";", "X : Integer;", "end", ":= 1", "package", "(", '"ä"', "null;", "with Counter;\n", "use"]
@@ -343,7 +372,7 @@ def fuzz(program, adalib, count, edits, seed=1):
             for name, text in sources.items():
                 (pathlib.Path(room) / name).write_text(text)
             client = Client(program, room, encoding)
-            disk, wrong = dict(sources), 0
+            disk, wrong, listed, astray = dict(sources), 0, 0, 0
             for turn in range(edits // 2):
                 name = rng.choice([*sources])
                 if name not in client.texts:
@@ -356,12 +385,16 @@ def fuzz(program, adalib, count, edits, seed=1):
                 else:
                     client.change(name, [random_change(rng, client, name) for _ in range(rng.choice([1, 1, 2, 5]))])
                 client.settle()
+                text, symbols = client.texts.get(name, disk[name]), client.symbols(name)
+                listed += bool(symbols)
+                astray += misplaced(text, symbols, encoding)
                 wanted = told_by_adalib(adalib, {**disk, **client.texts}, client.texts, encoding)
                 if client.picture != wanted:
                     wrong += 1
                     if wrong < 4:
                         print(f"edit {turn}, {encoding}: {shown(client.picture)}, and not {shown(wanted)}; texts {shown(client.texts)}")
             count.check(f"random edits, {encoding}", (wrong, client.repeated), (0, 0))
+            count.check(f"symbols after random edits, {encoding}", (listed > edits // 20, astray), (True, 0))
             count.check(f"end after random edits, {encoding}", client.end(), (b"", 0))
 
 
@@ -376,6 +409,8 @@ def damaged(program, count, rounds, seed=2):
         {"jsonrpc": "2.0", "method": "textDocument/didOpen", "params": {"textDocument": {"uri": "file:///nowhere/a.ads", "version": 1, "text": "package A is end A;"}}},
         {"jsonrpc": "2.0", "method": "textDocument/didChange", "params": {"textDocument": {"uri": "file:///nowhere/a.ads", "version": 2}, "contentChanges": [{"range": {"start": {"line": 0, "character": 1}, "end": {"line": 9, "character": 0}}, "text": "x"}]}},
         {"jsonrpc": "2.0", "method": "textDocument/didClose", "params": {"textDocument": {"uri": "file:///nowhere/a.ads"}}},
+        {"jsonrpc": "2.0", "id": 2, "method": "textDocument/documentSymbol", "params": {"textDocument": {"uri": "file:///nowhere/a.ads"}}},
+        {"jsonrpc": "2.0", "id": 3, "method": "workspace/symbol", "params": {"query": "a"}},
     ]
     bodies = [json.dumps(it).encode() for it in whole]
     lost = 0

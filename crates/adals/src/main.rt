@@ -8,6 +8,7 @@ ghost use Rattle.std.specs.Prelude.{◌-◌, ◌^◌, ◌<◌};
 
 mod ada_library;
 mod host;
+mod points;
 mod words;
 
 use crate::ada_library::new_library;

@@ -3,3 +3,4 @@ pub mod Methods
 pub mod Params
 pub mod Outgoing
 pub mod Values
+pub mod Symbols

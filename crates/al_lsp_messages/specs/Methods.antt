@@ -10,7 +10,9 @@ abbrev pub request_of : List ℕ → RequestMethod
 request_of method =
     if bytes_eq method (codes "initialize") then request.Initialize
     else (if bytes_eq method (codes "shutdown") then request.Shutdown
-    else request.Unknown)
+    else (if bytes_eq method (codes "textDocument/documentSymbol") then request.DocumentSymbol
+    else (if bytes_eq method (codes "workspace/symbol") then request.WorkspaceSymbol
+    else request.Unknown)))
 
 abbrev pub document_notice : List ℕ → NoticeMethod
 document_notice method =

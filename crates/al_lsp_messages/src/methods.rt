@@ -7,6 +7,8 @@ ghost use Rattle.al_lsp_messages.specs.Methods.{request_of, notice_of, document_
 pub enum RequestMethod {
     Initialize,
     Shutdown,
+    DocumentSymbol,
+    WorkspaceSymbol,
     Unknown,
 }
 
@@ -30,6 +32,10 @@ pub fn request_of(method: &str) -> RequestMethod
         RequestMethod::Initialize
     } else if method == "shutdown" {
         RequestMethod::Shutdown
+    } else if method == "textDocument/documentSymbol" {
+        RequestMethod::DocumentSymbol
+    } else if method == "workspace/symbol" {
+        RequestMethod::WorkspaceSymbol
     } else {
         RequestMethod::Unknown
     }

@@ -48,7 +48,7 @@ fn fill_range(alloc: Global, members: &mut Members, range: Range) -> Result<(), 
     put_position(alloc, members, "end", range.end)
 }
 
-fn put_range(
+pub(crate) fn put_range(
     alloc: Global,
     members: &mut Members,
     key: &str,
@@ -62,7 +62,7 @@ fn put_range(
 }
 
 // A text of bytes.
-fn put_bytes(
+pub(crate) fn put_bytes(
     alloc: Global,
     members: &mut Members,
     key: &str,
@@ -190,10 +190,10 @@ fn capabilities_text(counting: Counting) -> &'static str
 {
     match counting {
         Counting::Utf16 => {
-            "{\"capabilities\":{\"positionEncoding\":\"utf-16\",\"textDocumentSync\":{\"change\":2,\"openClose\":true,\"save\":true}},\"serverInfo\":{\"name\":\"adals\"}}"
+            "{\"capabilities\":{\"documentSymbolProvider\":true,\"positionEncoding\":\"utf-16\",\"textDocumentSync\":{\"change\":2,\"openClose\":true,\"save\":true},\"workspaceSymbolProvider\":true},\"serverInfo\":{\"name\":\"adals\"}}"
         }
         Counting::Utf8 | Counting::Lexer => {
-            "{\"capabilities\":{\"positionEncoding\":\"utf-8\",\"textDocumentSync\":{\"change\":2,\"openClose\":true,\"save\":true}},\"serverInfo\":{\"name\":\"adals\"}}"
+            "{\"capabilities\":{\"documentSymbolProvider\":true,\"positionEncoding\":\"utf-8\",\"textDocumentSync\":{\"change\":2,\"openClose\":true,\"save\":true},\"workspaceSymbolProvider\":true},\"serverInfo\":{\"name\":\"adals\"}}"
         }
     }
 }

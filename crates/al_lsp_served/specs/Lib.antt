@@ -7,3 +7,4 @@ pub mod Told
 pub mod Pictures
 pub mod Sent
 pub mod Sessions
+pub mod Asked

@@ -5,12 +5,14 @@
 //! - [`serve`] reads frames, and writes what the server says.
 #![tactic(auto)]
 
+mod asking;
 mod bringing;
 mod disk;
 mod document;
 mod library;
 mod locating;
 mod named;
+mod points;
 mod publishing;
 mod reading;
 mod server;
@@ -22,5 +24,6 @@ mod workspace;
 
 pub use disk::{Contents, Folders, SourceFile};
 pub use library::DiagnosedLibrary;
+pub use points::{Points, UnitName};
 pub use server::{Server, Step};
 pub use serving::{Ending, Failure, serve};

@@ -3,10 +3,11 @@ ghost use Rattle.std.specs.Prelude.{◌≡◌, ℕ, List, OnOk, OnErr, length, m
 ghost use Rattle.al_base.specs.Batch.{Finding, finding_of};
 ghost use Rattle.al_base.specs.Files.{Texts, with_file, without_file, put_refusal, delete_refusal, AnswersRefusal, AnswersFirst};
 
+use crate::points::Points;
 use al_base::{Diagnostic, NoMemory, Refusal};
 
 /// A library of files that are put and deleted, and that says what is wrong with them.
-pub trait DiagnosedLibrary {
+pub trait DiagnosedLibrary: Points {
     /// What is wrong with files.
     ghost finds: { Texts → List Finding → Type 0 };
 

@@ -191,8 +191,20 @@ impl<L: DiagnosedLibrary> Server<L> {
                     Ok(Answer::Given(Value::Null))
                 }
                 RequestMethod::Unknown => Ok(Answer::Refused(ErrorCode::MethodNotFound)),
+                _ => self.ask(method, params),
             },
             Phase::ShutDown => Ok(Answer::Refused(ErrorCode::InvalidRequest)),
+        }
+    }
+
+    // The answer to a request about texts.
+    fn ask(&self, method: RequestMethod, params: Option<&Value>) -> Result<Answer, NoMemory> {
+        let Some(params) = params else {
+            return Ok(Answer::Refused(ErrorCode::InvalidParams));
+        };
+        match self.space.asked(method, params)? {
+            Some(value) => Ok(Answer::Given(value)),
+            None => Ok(Answer::Refused(ErrorCode::InvalidParams)),
         }
     }
 

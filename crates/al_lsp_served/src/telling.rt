@@ -147,8 +147,8 @@ fn with_placed(told: Told, placed: Placed) -> Result<Told, NoMemory>
 }
 
 impl<L: DiagnosedLibrary> Workspace<L> {
-    // The text that the library has of a file.
-    fn text_of(&self, name: &[u8]) -> &[u8]
+    /// The text that the library has of a file; nothing where there is no such file.
+    pub fn text_of(&self, name: &[u8]) -> &[u8]
         ensures { result.now ≡ text_had self.now.sources.texts name.now }
     {
         match self.sources.texts.get(name) {
