@@ -2,6 +2,7 @@ pub mod WordLemmas
 pub mod FrameLemmas
 pub mod MemoryLemmas
 pub mod MoveLemmas
+pub mod PartLemmas
 pub mod PowerLemmas
 pub mod CodeLemmas
 pub mod BurstLemmas

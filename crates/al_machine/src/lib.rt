@@ -8,7 +8,7 @@
 //! - `table` with `stack`, `frames`, `memory`, `arithmetic`: what each instruction on words does.
 //! - `output`: what a program puts out.
 //! - `regions`: the protected objects, whose words only the task inside them may touch.
-//! - `spot`, `grouping`, `bursts`: groups of instructions, which are found once.
+//! - `spot`, `pieces`, `grouping`, `bursts`: groups of instructions, which are found once.
 //! - `spots`, `making`, `working`, `sinks`, `routines`: what the parts of a group do.
 //! - `burst`, `singles`: groups and single instructions one after the other.
 #![tactic(auto)]
@@ -24,6 +24,7 @@ mod making;
 mod memory;
 mod operation;
 mod output;
+mod pieces;
 mod regions;
 mod routines;
 mod singles;
