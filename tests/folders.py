@@ -501,6 +501,11 @@ def run_ended_lines(program, count):
         count.check("the output alone", run(program, ["--run", "m"], cwd=folder), (3, b"unended", b"\nraised constraint_error, m.adb:6\n"))
         sub = subprocess.run([program, "--run", "m", folder], cwd="/", stdin=subprocess.DEVNULL, capture_output=True)
         count.check("the folder of an exception", sub.stderr, b"\nraised constraint_error, " + folder.encode() + b"/m.adb:6\n")
+    for text, line in ((b"procedure M is\n   X : Integer := 0;\n\f\nbegin\n   X := 1 / X;\nend M;\n", 6), (b"procedure M is\r   X : Integer := 0;\rbegin\r   X := 1 / X;\rend M;\r", 4)):
+        with tempfile.TemporaryDirectory() as folder:
+            put(pathlib.Path(folder) / "m.adb", text)
+            told = f"raised constraint_error, m.adb:{line}\n".encode()
+            count.check(f"the line of an exception in {text!r}", run(program, ["--run", "m"], cwd=folder), (3, b"", told))
 
 
 def run_watched_lines(program, count):
@@ -517,6 +522,17 @@ def run_watched_lines(program, count):
         ):
             got = subprocess.run([program, "--watch", "hello"], cwd=folder, input=given, capture_output=True)
             count.check(f"a watch of {given[:20]!r}", (got.returncode, got.stdout, settled(got.stderr)), (0, output, built + told))
+
+
+def run_obsolete(program, count):
+    """Units that have become obsolete are listed on the standard error."""
+    with tempfile.TemporaryDirectory() as folder:
+        put(pathlib.Path(folder) / "hello.adb", HELLO)
+        with subprocess.Popen([program, "--watch", "hello"], cwd=folder, stdin=subprocess.PIPE, stdout=subprocess.PIPE, stderr=subprocess.PIPE) as watch:
+            first = settled(watch.stderr.readline())
+            put(pathlib.Path(folder) / "hello.adb", HELLO.replace(b"hi", b"hello"))
+            got = watch.communicate(b"obsolete\nquit\n", PATIENCE)
+            count.check("obsolete units", (first, *got, watch.returncode), (b"checked 1 of 1 units, image made, 0 ms\n", b"", b"body of hello\n", 0))
 
 
 def run_written(program, count):
@@ -620,6 +636,7 @@ def main():
     run_closure(program, count)
     run_ended_lines(program, count)
     run_watched_lines(program, count)
+    run_obsolete(program, count)
     run_written(program, count)
     run_numerous(program, count)
     run_refused(program, count)

@@ -1,3 +1,4 @@
+mod ExcerptLines
 mod Files
 mod ToldLines
 mod ShownBytes

@@ -27,5 +27,9 @@ abbrev pub caret : ℕ → ℕ → List ℕ → List ℕ
 caret front place line = where_left (nat_lt 0 front) (codes "   ") ++ flat_map blanks_for (take (place - front) (drop front line)) ++ codes "^"
 
 -- a line, at most 120 bytes of it, and the caret below the place
+abbrev pub marked : ℕ → List ℕ → List ℕ
+marked place line = let front = left_out (length line) place in shown front line ++ codes "\n" ++ caret front place line ++ codes "\n"
+
+-- what is shown of a place in a line: nothing if the line has no byte, as at the end of a text
 abbrev pub excerpt : ℕ → List ℕ → List ℕ
-excerpt place line = let front = left_out (length line) place in shown front line ++ codes "\n" ++ caret front place line ++ codes "\n"
+excerpt place line = if length line == 0 then [] else marked place line

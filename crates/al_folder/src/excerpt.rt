@@ -2,7 +2,7 @@
 ghost use Rattle.std.specs.Prelude.{◌≡◌, ◌∷◌, [], ◌-◌, ◌^◌, ◌<◌, ◌≤◌, ◌+◌, IsOk, length, drop, take, nat_lt};
 ghost use Rattle.std.specs.List.{flat_map};
 ghost use Rattle.al_session_stream.specs.Output.{Adds};
-ghost use Rattle.al_folder.specs.Excerpts.{left_out, where_left, shown, blanks_for, caret, excerpt};
+ghost use Rattle.al_folder.specs.Excerpts.{left_out, where_left, shown, blanks_for, caret, marked, excerpt};
 
 use crate::messages::emit_shown_bytes;
 use al_session_stream::{Device, Sink, emit};
@@ -118,6 +118,25 @@ fn emit_caret<K: Sink>(
 }
 
 /// Writes a line, at most [`WIDTH`] bytes of it, and below it a caret under the byte at the place.
+fn emit_marked<K: Sink>(
+    so_far: Result<(), Device>,
+    writer: &mut K,
+    place: usize,
+    line: &[u8],
+) -> Result<(), Device>
+    requires { IsOk so_far → K.faults writer.old < 2 ^ 64 - 1 }
+    ensures faults { IsOk result → IsOk so_far × (K.faults writer.new ≡ K.faults writer.old) }
+    ensures adds { Adds K.written K.faults K.waits writer.old writer.new so_far result (marked place line.now) }
+{
+    let front = left_out(line.len(), place);
+    let so_far = emit_shown(so_far, writer, front, line);
+    let so_far = emit(so_far, writer, b"\n");
+    let so_far = emit_caret(so_far, writer, front, place, line);
+    emit(so_far, writer, b"\n")
+}
+
+/// Writes a line, at most [`WIDTH`] bytes of it, and below it a caret under the byte at the place; nothing if the line has no byte, as at the end of
+/// a text.
 ///
 /// # Errors
 ///
@@ -132,9 +151,9 @@ pub fn emit_excerpt<K: Sink>(
     ensures faults { IsOk result → IsOk so_far × (K.faults writer.new ≡ K.faults writer.old) }
     ensures adds { Adds K.written K.faults K.waits writer.old writer.new so_far result (excerpt place line.now) }
 {
-    let front = left_out(line.len(), place);
-    let so_far = emit_shown(so_far, writer, front, line);
-    let so_far = emit(so_far, writer, b"\n");
-    let so_far = emit_caret(so_far, writer, front, place, line);
-    emit(so_far, writer, b"\n")
+    if line.is_empty() {
+        emit(so_far, writer, b"")
+    } else {
+        emit_marked(so_far, writer, place, line)
+    }
 }

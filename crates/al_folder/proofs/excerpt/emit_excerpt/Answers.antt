@@ -1,10 +1,11 @@
-use Rattle.std.proofs.Common.{append_assoc}
+use Rattle.std.proofs.Common.{sym, ◌∙◌}
+use Rattle.al_folder.proofs.ExcerptLines.{excerpt_none, excerpt_some}
 use Rattle.al_folder.proofs.excerpt.emit_excerpt.Goals as goal
 
-pub returns-clause-adds : goal.returns-clause-adds
-returns-clause-adds g c = λ start before wrote.
-    let one = rw c.left_out-front.ensures.value at (c.emit_shown-so_far.ensures.adds start before wrote) in
-    let two = c.emit-so_far.ensures.adds start _ one in
-    let three = rw c.left_out-front.ensures.value at (c.emit_caret-so_far.ensures.adds start _ two) in
-    let four = c.emit.ensures.adds start _ three in
-    simp append_assoc (simp append_assoc at four)
+pub returns-then-is_empty-clause-adds : goal.returns-then-is_empty-clause-adds
+returns-then-is_empty-clause-adds g c = λ start before wrote.
+    rw (excerpt_none c.args.place c.args.line.now (sym c.is_empty.ensures ∙ c.if-is_empty.true)) (c.emit.ensures.adds start before wrote)
+
+pub returns-else-is_empty-clause-adds : goal.returns-else-is_empty-clause-adds
+returns-else-is_empty-clause-adds g c = λ start before wrote.
+    rw (excerpt_some c.args.place c.args.line.now (sym c.is_empty.ensures ∙ c.if-is_empty.false)) (c.emit_marked.ensures.adds start before wrote)
