@@ -3,7 +3,7 @@
 1,000 and 4,000 by default.
 
 A body and a declaration get a fault and are mended, a change of a comment tells nothing (the answer to a request behind it is waited for), a name that
-all packages read goes and comes back; then the symbols of a body, and the units whose names hold a word. Each figure is the median of some turns, in
+all packages read goes and comes back; then the symbols of a body, the units whose names hold a word, and what a name means. Each figure is the median of some turns, in
 milliseconds of the clock. First of all is what is told first, behind `initialized`, and last the memory that the process has and the most that it had.
 What is aimed at: a body under 5 ms, broken and mended, at each number, and under 100 MB at 4,000. It is no test.
 """
@@ -103,6 +103,11 @@ def timed(program, count):
         symbols = client.answer("textDocument/documentSymbol", {"textDocument": {"uri": client.uri(name)}})
         units = client.answer("workspace/symbol", {"query": "p1"})
         print(f"  {'symbols of a body / units by a word':<42} {symbols:8.2f} / {units:8.2f} ms", flush=True)
+        at = files[name].rindex("Local")
+        position = {"line": files[name].count("\n", 0, at), "character": at - files[name].rfind("\n", 0, at) - 1}
+        place = {"textDocument": {"uri": client.uri(name)}, "position": position}
+        asked = [client.answer(f"textDocument/{it}", place) for it in ("definition", "hover", "completion")]
+        print(f"  {'definition / hover / completion in a body':<42} {asked[0]:8.2f} / {asked[1]:8.2f} / {asked[2]:8.2f} ms", flush=True)
         now, most = memory(client.server.process)
         print(f"  memory {now:.1f} MB, at most {most:.1f} MB" + (f"   aim {AIM_MEMORY} MB" if count == 4000 else ""), flush=True)
         client.server.process.kill()

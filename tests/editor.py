@@ -15,7 +15,7 @@ All that the server sends must be wanted, in this order.
 
 Then random edits: a client keeps its own texts by its own rules of lines and columns, in UTF-8 and in UTF-16, and its picture of what is wrong,
 which after each edit must be what ADALIB says of these texts from nothing (N edits, 300 by default), and the symbols of each text must be in one
-another, where the text has their names. Then damaged input: noise in frames (N bytes,
+another, where the text has their names; declarations, references and completions of a random name of each must have that name. Then damaged input: noise in frames (N bytes,
 100,000 by default), each of which has one answer, and messages with bytes changed (N, 2,000 by default); each must end in an answer or an end, and
 each request that stays whole has its answer. Last, where Neovim is there, its client opens a folder, makes and mends faults; and with ADALIB a
 folder of N packages (60 by default), of which it must show what ADALIB says of the texts that it has, after each step of tests/editor/neovim_steps.lua:
@@ -318,6 +318,10 @@ class Client:
     def symbols(self, name):
         return self.server.request("textDocument/documentSymbol", {"textDocument": {"uri": self.uri(name)}})[0]["result"]
 
+    def at(self, method, name, position):
+        """What the server says of a place."""
+        return self.server.request(f"textDocument/{method}", {"textDocument": {"uri": self.uri(name)}, "position": position})[0]["result"]
+
     def end(self):
         self.server.request("shutdown")
         self.server.notify("exit")
@@ -349,6 +353,22 @@ def misplaced(text, symbols, encoding, outer=None):
     return wrong
 
 
+def strayed(rng, client, name, texts):
+    """How many declarations are found of an identifier of a text, and how many places and names are none of it: declarations, references, completions."""
+    words = [*re.finditer(r"[A-Za-z]\w*", texts[name])]
+    if not words:
+        return 0, 0
+    word = rng.choice(words)
+    position = position_of(texts[name], word.start(), client.encoding)
+    found = client.at("definition", name, position)
+    places = found + client.at("references", name, position)
+    wrong = sum(selected(texts[it["uri"].rpartition("/")[2]], it["range"], client.encoding).lower() != word[0].lower() for it in places)
+    ends = position_of(texts[name], word.end(), client.encoding)
+    wrong += sum(not it["label"].startswith(word[0].lower()) for it in client.at("completion", name, ends))
+    wrong += bool(found) and client.at("hover", name, position) is None
+    return len(found), wrong
+
+
 PIECES = ["é", "𝄞", "\r\n", "\r", "\n", " ", "-- ü𝄞\n", "\f", "\v", "Counter", "Limit", ";", "X : Integer;", "end", ":= 1", "package", "(", '"ä"', "null;", "with Counter;\n", "use"]
 
 
@@ -372,7 +392,7 @@ def fuzz(program, adalib, count, edits, seed=1):
             for name, text in sources.items():
                 (pathlib.Path(room) / name).write_text(text)
             client = Client(program, room, encoding)
-            disk, wrong, listed, astray = dict(sources), 0, 0, 0
+            disk, wrong, listed, astray, found, strays = dict(sources), 0, 0, 0, 0, 0
             for turn in range(edits // 2):
                 name = rng.choice([*sources])
                 if name not in client.texts:
@@ -388,6 +408,8 @@ def fuzz(program, adalib, count, edits, seed=1):
                 text, symbols = client.texts.get(name, disk[name]), client.symbols(name)
                 listed += bool(symbols)
                 astray += misplaced(text, symbols, encoding)
+                more, others = strayed(rng, client, name, {**disk, **client.texts})
+                found, strays = found + more, strays + others
                 wanted = told_by_adalib(adalib, {**disk, **client.texts}, client.texts, encoding)
                 if client.picture != wanted:
                     wrong += 1
@@ -395,6 +417,7 @@ def fuzz(program, adalib, count, edits, seed=1):
                         print(f"edit {turn}, {encoding}: {shown(client.picture)}, and not {shown(wanted)}; texts {shown(client.texts)}")
             count.check(f"random edits, {encoding}", (wrong, client.repeated), (0, 0))
             count.check(f"symbols after random edits, {encoding}", (listed > edits // 20, astray), (True, 0))
+            count.check(f"declarations of names after random edits, {encoding}", (found > 0, strays), (True, 0))
             count.check(f"end after random edits, {encoding}", client.end(), (b"", 0))
 
 
@@ -411,6 +434,7 @@ def damaged(program, count, rounds, seed=2):
         {"jsonrpc": "2.0", "method": "textDocument/didClose", "params": {"textDocument": {"uri": "file:///nowhere/a.ads"}}},
         {"jsonrpc": "2.0", "id": 2, "method": "textDocument/documentSymbol", "params": {"textDocument": {"uri": "file:///nowhere/a.ads"}}},
         {"jsonrpc": "2.0", "id": 3, "method": "workspace/symbol", "params": {"query": "a"}},
+        *({"jsonrpc": "2.0", "id": it, "method": f"textDocument/{it}", "params": {"textDocument": {"uri": "file:///nowhere/a.ads"}, "position": {"line": 0, "character": 9}}} for it in ("definition", "hover", "references", "completion")),
     ]
     bodies = [json.dumps(it).encode() for it in whole]
     lost = 0
@@ -432,7 +456,7 @@ def damaged(program, count, rounds, seed=2):
     server.ended()
     count.check(f"{rounds} messages with changed bytes", lost, 0)
     for turn in range(20):
-        noise = rng.randbytes(rng.choice([1, 100, 5000]))
+        noise = b"\xff" + rng.randbytes(rng.choice([1, 100, 5000]))
         server = Server(program, "/")
         server.send_bytes(frame(noise) if turn % 2 else noise)
         left, status = server.ended()

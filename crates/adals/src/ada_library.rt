@@ -12,7 +12,7 @@ use std::alloc::Global;
 
 /// A library of Ada units over a checker.
 pub struct AdaLibrary<C: UnitCheck> {
-    engine: Engine<C>,
+    pub(crate) engine: Engine<C>,
 }
 
 impl<C: UnitCheck + Drop> Drop for AdaLibrary<C> {

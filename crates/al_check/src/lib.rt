@@ -7,7 +7,9 @@
 
 mod finder;
 pub mod laws;
+mod standing;
 mod start;
 mod walk;
 
 pub use finder::{AdaCheck, AdaFinder, ada_check};
+pub use standing::state_at;

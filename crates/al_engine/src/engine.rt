@@ -13,6 +13,8 @@ ghost use Rattle.al_engine.specs.Builds.{IsBuild};
 ghost use Rattle.al_engine.specs.Reports.{found_last, gave_last, obsolete_refusal, obsolete_since, reported};
 ghost use Rattle.al_engine.specs.Runs.{AnswersRun};
 
+mod present;
+
 use crate::building::{build_or_cancel, obsolete_since};
 use crate::last_build::LastBuild;
 use crate::read_files::ReadFiles;

@@ -4,3 +4,4 @@ pub mod Params
 pub mod Outgoing
 pub mod Values
 pub mod Symbols
+pub mod Places

@@ -12,7 +12,11 @@ request_of method =
     else (if bytes_eq method (codes "shutdown") then request.Shutdown
     else (if bytes_eq method (codes "textDocument/documentSymbol") then request.DocumentSymbol
     else (if bytes_eq method (codes "workspace/symbol") then request.WorkspaceSymbol
-    else request.Unknown)))
+    else (if bytes_eq method (codes "textDocument/definition") then request.Definition
+    else (if bytes_eq method (codes "textDocument/hover") then request.Hover
+    else (if bytes_eq method (codes "textDocument/references") then request.References
+    else (if bytes_eq method (codes "textDocument/completion") then request.Completion
+    else request.Unknown)))))))
 
 abbrev pub document_notice : List ℕ → NoticeMethod
 document_notice method =

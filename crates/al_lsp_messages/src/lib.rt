@@ -10,11 +10,13 @@ mod members;
 mod methods;
 mod outgoing;
 pub mod params;
+mod places;
 mod symbols;
 mod values;
 
 pub use incoming::{Incoming, incoming_of};
 pub use methods::{NoticeMethod, RequestMethod, notice_of, request_of};
 pub use outgoing::{ErrorCode, Outgoing, Published, body_of};
+pub use places::{hover_value, proposed_value};
 pub use symbols::{ListedSymbol, location_value, symbol_value, unit_value};
 pub use values::{Shown, capabilities, message_params, shown_value, watch_params};

@@ -9,6 +9,10 @@ pub enum RequestMethod {
     Shutdown,
     DocumentSymbol,
     WorkspaceSymbol,
+    Definition,
+    Hover,
+    References,
+    Completion,
     Unknown,
 }
 
@@ -36,6 +40,14 @@ pub fn request_of(method: &str) -> RequestMethod
         RequestMethod::DocumentSymbol
     } else if method == "workspace/symbol" {
         RequestMethod::WorkspaceSymbol
+    } else if method == "textDocument/definition" {
+        RequestMethod::Definition
+    } else if method == "textDocument/hover" {
+        RequestMethod::Hover
+    } else if method == "textDocument/references" {
+        RequestMethod::References
+    } else if method == "textDocument/completion" {
+        RequestMethod::Completion
     } else {
         RequestMethod::Unknown
     }

@@ -90,7 +90,7 @@ pub fn opened_in(params: &Value) -> Option<Opened<'_>>
     })
 }
 
-fn position_in(value: &Value) -> Option<Position>
+pub fn position_in(value: &Value) -> Option<Position>
     ensures { result ≡ position_in (view value.now) }
 {
     let line = number_in(value, "line")?;

@@ -190,10 +190,10 @@ fn capabilities_text(counting: Counting) -> &'static str
 {
     match counting {
         Counting::Utf16 => {
-            "{\"capabilities\":{\"documentSymbolProvider\":true,\"positionEncoding\":\"utf-16\",\"textDocumentSync\":{\"change\":2,\"openClose\":true,\"save\":true},\"workspaceSymbolProvider\":true},\"serverInfo\":{\"name\":\"adals\"}}"
+            "{\"capabilities\":{\"completionProvider\":{\"triggerCharacters\":[\".\"]},\"definitionProvider\":true,\"documentSymbolProvider\":true,\"hoverProvider\":true,\"referencesProvider\":true,\"positionEncoding\":\"utf-16\",\"textDocumentSync\":{\"change\":2,\"openClose\":true,\"save\":true},\"workspaceSymbolProvider\":true},\"serverInfo\":{\"name\":\"adals\"}}"
         }
         Counting::Utf8 | Counting::Lexer => {
-            "{\"capabilities\":{\"documentSymbolProvider\":true,\"positionEncoding\":\"utf-8\",\"textDocumentSync\":{\"change\":2,\"openClose\":true,\"save\":true},\"workspaceSymbolProvider\":true},\"serverInfo\":{\"name\":\"adals\"}}"
+            "{\"capabilities\":{\"completionProvider\":{\"triggerCharacters\":[\".\"]},\"definitionProvider\":true,\"documentSymbolProvider\":true,\"hoverProvider\":true,\"referencesProvider\":true,\"positionEncoding\":\"utf-8\",\"textDocumentSync\":{\"change\":2,\"openClose\":true,\"save\":true},\"workspaceSymbolProvider\":true},\"serverInfo\":{\"name\":\"adals\"}}"
         }
     }
 }

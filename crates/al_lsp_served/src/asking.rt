@@ -23,6 +23,10 @@ impl<L: DiagnosedLibrary> Workspace<L> {
         match method {
             RequestMethod::DocumentSymbol => self.document_symbols(params),
             RequestMethod::WorkspaceSymbol => self.workspace_symbols(params),
+            RequestMethod::Definition => self.definition(params),
+            RequestMethod::Hover => self.hover(params),
+            RequestMethod::References => self.references(params),
+            RequestMethod::Completion => self.completion(params),
             _ => Ok(None),
         }
     }
@@ -38,7 +42,7 @@ impl<L: DiagnosedLibrary> Workspace<L> {
     }
 
     // The text that a URI names; nothing where it is no file of the folders.
-    fn text_named(&self, uri: &str) -> Result<&[u8], NoMemory> {
+    pub(crate) fn text_named(&self, uri: &str) -> Result<&[u8], NoMemory> {
         match name_in(self.alloc, self.folders.as_slice(), uri)? {
             Some(name) => Ok(self.text_seen(name.as_slice())),
             None => Ok(&[]),

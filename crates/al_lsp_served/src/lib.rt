@@ -6,6 +6,7 @@
 #![tactic(auto)]
 
 mod asking;
+mod asking_places;
 mod bringing;
 mod disk;
 mod document;
@@ -24,6 +25,6 @@ mod workspace;
 
 pub use disk::{Contents, Folders, SourceFile};
 pub use library::DiagnosedLibrary;
-pub use points::{Points, UnitName};
+pub use points::{Meant, Points, Proposed, Site, UnitName};
 pub use server::{Server, Step};
 pub use serving::{Ending, Failure, serve};
