@@ -1,0 +1,16 @@
+pub mod AllLemmas
+pub mod RightLemmas
+pub mod CleanLemmas
+pub mod Walks
+pub mod AdaWalks
+pub mod Found
+pub mod TreeUnits
+pub mod BodiesLeft
+pub mod PackagesLeft
+pub mod LeftLaws
+pub mod Dots
+pub mod SimpleWords
+pub mod MainLaws
+pub mod WordWalks
+pub mod AdaWords
+pub mod WordLaws
