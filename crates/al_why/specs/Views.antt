@@ -4,7 +4,7 @@ use Rattle.std.specs.Fmt.{signed_decimal}
 use Rattle.al_view.specs.declared.types.StaticValue.{StaticValue}
 use Rattle.al_view.specs.declared.types.Subtype.{Subtype}
 use Rattle.al_view.specs.declared.view.CallKind.{CallKind}
-use Rattle.al_view.specs.declared.view.CallKind.TheVariants.{Operator, Subprogram, Predefined, Protected, Entry}
+use Rattle.al_view.specs.declared.view.CallKind.TheVariants.{Entry}
 use Rattle.al_view.specs.declared.view.ObjectView.{ObjectView}
 use Rattle.al_view.specs.declared.view.SubprogramView.{SubprogramView}
 use Rattle.al_view.specs.declared.view.ViewKind.{ViewKind}
